@@ -1,0 +1,64 @@
+-- Laws of splitting and joining, over any length.
+use Prim.Native.Nat.{ℕ, _+_, _*_, _/_, _%_, _-_, _≤_}
+use mathlib.Core.List.{List, [], _∷_}
+use mathlib.Core.Bool.{true, _&&_}
+use mathlib.Core.Path.{_≡_, refl}
+use native.Mathlib.Omega.{arith}
+use lib.Dec.{leb}
+use lib.ListN.{length}
+use borrow.Author.Tests.{le-leb, leb-true}
+use Rattle.ground.specs.Lists.{allAtMost}
+use Rattle.ground.proofs.Tests.{both}
+use Rattle.halves.specs.HalfBytes.{split, join, allHalves}
+
+whole : (x : ℕ) → x / 16 * 16 + x % 16 ≡ x
+whole x = omega arith
+
+-- joining what was split gives the bytes back
+pub join-split : (bytes : List ℕ) → join (split bytes) ≡ bytes
+join-split [] = refl
+join-split (x ∷ xs) = rw (whole x, join-split xs)
+
+high-half : (high low : ℕ) → low ≤ 15 → (high * 16 + low) / 16 ≡ high
+high-half high low p = omega arith
+
+low-half : (high low : ℕ) → low ≤ 15 → (high * 16 + low) % 16 ≡ low
+low-half high low p = omega arith
+
+-- splitting what was joined gives the half bytes back, where all are at most 0x0F and each has its partner
+pub split-join : (halves : List ℕ) (n : ℕ) → length halves ≡ 2 * n → allHalves halves ≡ true → split (join halves) ≡ halves
+split-join [] n e c = refl
+split-join (high ∷ []) n e c = absurd (omega arith)
+split-join (high ∷ low ∷ xs) n e c =
+    let p = both (leb high 15) (leb low 15 && allHalves xs) c in
+    let q = both (leb low 15) (allHalves xs) (p .1) in
+    let b = leb-true low 15 (q .0) in
+    rw (high-half high low b, low-half high low b, split-join xs (n - 1) (omega arith) (q .1))
+
+-- every half byte of a split is at most 0x0F
+pub split-halves : (bytes : List ℕ) → allAtMost 0xFF bytes ≡ true → allHalves (split bytes) ≡ true
+split-halves [] c = refl
+split-halves (x ∷ xs) c =
+    let p = both (leb x 255) (allAtMost 255 xs) c in
+    let b = leb-true x 255 (p .0) in
+    rw (le-leb (x / 16) 15 (omega arith), le-leb (x % 16) 15 (omega arith)) (split-halves xs (p .1))
+
+-- every byte of a join is a byte
+pub join-bytes : (halves : List ℕ) → allHalves halves ≡ true → allAtMost 0xFF (join halves) ≡ true
+join-bytes [] c = refl
+join-bytes (high ∷ []) c = refl
+join-bytes (high ∷ low ∷ xs) c =
+    let p = both (leb high 15) (leb low 15 && allHalves xs) c in
+    let q = both (leb low 15) (allHalves xs) (p .1) in
+    let h = leb-true high 15 (p .0) in
+    let l = leb-true low 15 (q .0) in
+    rw (le-leb (high * 16 + low) 255 (omega arith)) (join-bytes xs (q .1))
+
+pub length-split : (bytes : List ℕ) → length (split bytes) ≡ 2 * length bytes
+length-split [] = refl
+length-split (x ∷ xs) = omega (arith, length-split xs)
+
+pub length-join : (halves : List ℕ) → length (join halves) ≡ length halves / 2
+length-join [] = refl
+length-join (high ∷ []) = refl
+length-join (high ∷ low ∷ xs) = omega (arith, length-join xs)

@@ -1,0 +1,2 @@
+pub mod HalfBytes
+pub mod Moving

@@ -1,0 +1,84 @@
+// Bytes and half bytes, over any length.
+ghost use mathlib.Core.Path.{_≡_};
+ghost use mathlib.Core.Bool.{true};
+ghost use Prim.Native.Nat.{_*_};
+ghost use lib.ListN.{length};
+ghost use Rattle.ground.specs.Lists.{allAtMost};
+ghost use Rattle.halves.specs.HalfBytes.{split, join, allHalves};
+ghost use Rattle.halves.specs.Moving.{left, splitInto, joinInto};
+
+// How splitting or joining ended. Nothing is written unless it is `Done`.
+pub enum Moved {
+    Done,
+    // There are not two half bytes for each byte.
+    Misfit,
+    // A half byte is above 0x0F.
+    Above,
+}
+
+// Whether each byte of the list is at most `top`.
+pub fn all_at_most(list: &[u8], top: u8) -> bool
+    ensures { λ r. ⌜ r ≡ allAtMost top (now (list .entry)) ⌝ }
+{
+    let mut i = 0;
+    while i < list.len() {
+        if top < list[i] {
+            return false;
+        }
+        i += 1;
+    }
+    true
+}
+
+// Each byte as its high half, then its low half.
+pub fn split_into(bytes: &[u8], halves: &mut [u8]) -> Moved
+    ensures { λ r. ⌜ left r (now (halves .exit)) ≡ splitInto (now (bytes .entry)) (now (halves .entry)) ⌝ }
+{
+    if halves.len() != 2 * bytes.len() {
+        return Moved::Misfit;
+    }
+    split_all(bytes, halves);
+    Moved::Done
+}
+
+fn split_all(bytes: &[u8], halves: &mut [u8])
+    requires { ⌜ length (now halves) ≡ 2 * length (now bytes) ⌝ }
+    ensures { λ _. ⌜ now (halves .exit) ≡ split (now (bytes .entry)) ⌝ }
+{
+    let mut i = 0;
+    let mut j = 0;
+    while i < bytes.len() {
+        halves[j] = bytes[i] / 16;
+        halves[j + 1] = bytes[i] % 16;
+        i += 1;
+        j += 2;
+    }
+}
+
+// Each two half bytes as one byte. All of them are looked at before the first byte is written.
+pub fn join_into(halves: &[u8], bytes: &mut [u8]) -> Moved
+    ensures { λ r. ⌜ left r (now (bytes .exit)) ≡ joinInto (now (halves .entry)) (now (bytes .entry)) ⌝ }
+{
+    if halves.len() != 2 * bytes.len() {
+        return Moved::Misfit;
+    }
+    if all_at_most(halves, 0x0F) {
+        join_all(halves, bytes);
+        return Moved::Done;
+    }
+    Moved::Above
+}
+
+fn join_all(halves: &[u8], bytes: &mut [u8])
+    requires { ⌜ length (now halves) ≡ 2 * length (now bytes) ⌝ }
+    requires { ⌜ allHalves (now halves) ≡ true ⌝ }
+    ensures { λ _. ⌜ now (bytes .exit) ≡ join (now (halves .entry)) ⌝ }
+{
+    let mut i = 0;
+    let mut j = 0;
+    while i < bytes.len() {
+        bytes[i] = halves[j] * 16 + halves[j + 1];
+        i += 1;
+        j += 2;
+    }
+}
