@@ -1,0 +1,21 @@
+-- The number that stands there, the next one, and where it goes.
+use Rattle.controls.specs.Applying.{store}
+use borrow.Author.Needs.{needs}
+use Rattle.controls.proofs.fields.store.Statement.{statement}
+use Rattle.controls.proofs.fields.store.Tie as tie
+
+returns : tie.Need-returns
+unfolding store
+returns c = rw (← c .before .before .before .before .before .read .ensures, ← c .before .before .before .next .ensures) (c .before .before .put .ensures)
+
+pub store-spec : {M : Type 1} → statement M
+store-spec =
+    tie.close
+    (tie.spec
+    (λ c. search needs)
+    (λ c κs. search needs)
+    (λ c. search needs)
+    (λ c κs. search needs)
+    (λ c κs. search needs)
+    (λ c. search needs)
+    returns)

@@ -1,0 +1,21 @@
+-- The tests are those of `scaleRow`, in its order.
+use Rattle.ground.proofs.Tests.{tests}
+use borrow.Author.Needs.{needs}
+use Rattle.controls.proofs.scale_row.Statement.{statement}
+use Rattle.controls.proofs.scale_row.Tie as tie
+
+returns-5 : tie.Need-returns-5
+returns-5 c = search (tests, ← c .number .ensures)
+
+pub scale-row-spec : {M : Type 1} → statement M
+scale-row-spec =
+    tie.close
+    (tie.spec
+    (λ c. search tests)
+    (λ c. search tests)
+    (λ c. search tests)
+    (λ c. search needs)
+    (λ c. search tests)
+    (λ c. search needs)
+    (λ c κs. search needs)
+    returns-5)

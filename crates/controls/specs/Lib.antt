@@ -1,0 +1,7 @@
+pub mod Formulas
+pub mod Table
+pub mod Fields
+pub mod Answers
+pub mod Scaling
+pub mod Applying
+pub mod Showing

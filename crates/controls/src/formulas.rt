@@ -1,0 +1,134 @@
+// The formulas, and the way back from a stored number.
+ghost use mathlib.Core.Path.{_≡_};
+ghost use Prim.Native.Nat.{_≤_, _+_, _*_, _/_, _%_, min};
+ghost use Rattle.controls.specs.Formulas.{numberBy, mOf, nextBy};
+ghost use Rattle.controls.specs.Showing.{smallest, sevenBits, shownOf};
+use crate::Reading;
+use crate::Row;
+
+const V_64: u8 = 0;
+
+const V_2: u8 = 1;
+
+const AS_RECEIVED: u8 = 2;
+
+const THRESHOLD: u8 = 3;
+
+pub(crate) const M_UPPER: u8 = 4;
+
+pub(crate) const M_LOWER: u8 = 5;
+
+const V_22: u8 = 6;
+
+const V_50: u8 = 7;
+
+const V_256_104: u8 = 8;
+
+const V_256_42: u8 = 9;
+
+const V_22_100: u8 = 10;
+
+const V_25: u8 = 11;
+
+// The number that a formula gives for v.
+pub(crate) fn number(formula: u8, v: u16) -> u16
+    requires { ⌜ v ≤ 127 ⌝ }
+    ensures { λ r. ⌜ r ≡ numberBy formula v ⌝ }
+{
+    if formula == V_64 {
+        return v / 64;
+    }
+    if formula == V_2 {
+        return v / 2;
+    }
+    if formula == AS_RECEIVED {
+        return v;
+    }
+    if formula == THRESHOLD {
+        return (127 - v) * 194 / 256;
+    }
+    if formula == V_22 {
+        return v / 22;
+    }
+    if formula == V_50 {
+        return v * 50;
+    }
+    if formula == V_256_104 {
+        return v * 256 / 104;
+    }
+    if formula == V_256_42 {
+        return v * 256 / 42;
+    }
+    if formula == V_22_100 {
+        return v * 22 + 100;
+    }
+    if formula == V_25 {
+        return v * 25;
+    }
+    0
+}
+
+// m of a stored number.
+fn m_of(stored: u32) -> u32
+    ensures { λ r. ⌜ r ≡ mOf stored ⌝ }
+{
+    let m = stored / 6;
+    if 16383 < m { 16383 } else { m }
+}
+
+// The number to store for v where `stored` stands.
+pub(crate) fn next(formula: u8, v: u16, stored: u32) -> u32
+    requires { ⌜ v ≤ 127 ⌝ }
+    ensures { λ r. ⌜ r ≡ nextBy formula v stored ⌝ }
+{
+    let m = m_of(stored);
+    if formula == M_UPPER {
+        return 6 * (v as u32 * 128 + m % 128);
+    }
+    if formula == M_LOWER {
+        return 6 * (m / 128 * 128 + v as u32);
+    }
+    number(formula, v) as u32
+}
+
+// The value that shows a stored number.
+pub(crate) fn shown(row: Row, stored: u32) -> Reading
+    requires { ⌜ row .highest ≤ 127 ⌝ }
+    ensures { λ r. ⌜ r ≡ shownOf row stored ⌝ }
+{
+    let m = m_of(stored);
+    if row.formula == M_UPPER {
+        return seven_bits(stored, m, m / 128);
+    }
+    if row.formula == M_LOWER {
+        return seven_bits(stored, m, m % 128);
+    }
+    first(row.formula, stored, row.highest as u16)
+}
+
+// Seven bits of m, where the stored number is 6 x m.
+fn seven_bits(stored: u32, m: u32, bits: u32) -> Reading
+    requires { ⌜ m ≡ mOf stored ⌝ }
+    requires { ⌜ bits ≤ 127 ⌝ }
+    ensures { λ r. ⌜ r ≡ sevenBits stored bits ⌝ }
+{
+    if stored == 6 * m {
+        return Reading::Value(bits as u16);
+    }
+    Reading::Refused(40)
+}
+
+// The first value up to the highest whose formula gives the stored number.
+fn first(formula: u8, stored: u32, highest: u16) -> Reading
+    requires { ⌜ highest ≤ 127 ⌝ }
+    ensures { λ r. ⌜ r ≡ smallest formula stored (highest + 1) 0 ⌝ }
+{
+    let mut v = 0;
+    while v <= highest {
+        if number(formula, v) as u32 == stored {
+            return Reading::Value(v);
+        }
+        v += 1;
+    }
+    Reading::Refused(40)
+}
