@@ -1,2 +1,7 @@
 pub mod Rows
 pub mod Smallest
+pub mod Bytes
+pub mod Back
+pub mod Controllers
+pub mod RoundTrips
+pub mod OneResult

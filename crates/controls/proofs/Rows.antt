@@ -1,28 +1,32 @@
 -- Laws of the table: what its list says of each row, and that the code's columns are the list.
 use Prim.Native.Nat.{ℕ, _+_, _≤_, _<_}
-use mathlib.Core.Bool.{Bool, true, false, cond, _&&_}
+use mathlib.Core.Bool.{Bool, true, false, cond, _&&_, false≢true}
 use mathlib.Core.List.{List, [], _∷_}
+use mathlib.Core.Logic.{_⊎_, inl, inr, ⊎-elim}
 use mathlib.Core.Path.{_≡_, refl}
 use native.Mathlib.Omega.{arith}
 use lib.Dec.{eqb, leb, ltb}
 use lib.ListN.{getD}
 use borrow.Author.Tests.{eqb-true, leb-true, ltb-true, ne-eqb}
-use Rattle.ground.proofs.Tests.{both, by}
-use Rattle.ground.proofs.Computed.{column, column-at}
+use Rattle.ground.proofs.Tests.{both, either, by}
+use Rattle.ground.proofs.Computed.{column, column-at, every, every-at}
 use Rattle.controls.specs.declared.Row.{Row}
+use Rattle.controls.specs.Formulas.{m-upper, m-lower, numberBy}
 use Rattle.controls.specs.Table.{Entry, programSize, Sane, find, none, rowAs, rows, rowOf, selections, effectOf}
+use Rattle.controls.proofs.Bytes.{Outside, above}
 
 module _ {A : Type 0} (other : A) where
-  -- a test that each value passes, and `other` too, passes at what is found
-  abbrev pub all : (A → Bool) → List (Entry A) → Bool
-  all test [] = test other
-  all test (e ∷ es) = test (e .value) && all test es
+  -- a test that each entry passes, and `other` at any key, passes at what is found
+  abbrev pub all : (ℕ → A → Bool) → List (Entry A) → Bool
+  all test [] = true
+  all test (e ∷ es) = test (e .key) (e .value) && all test es
 
-  pub found : (test : A → Bool) (es : List (Entry A)) → all test es ≡ true → (key : ℕ) → test (find other key es) ≡ true
-  found test [] t key = t
-  found test (e ∷ es) t key =
-      let p = both (test (e .value)) (all test es) t in
-      by (λ x. test x ≡ true) (eqb key (e .key)) _ _ (λ _. p .0) (λ _. found test es (p .1) key)
+  pub found : (test : ℕ → A → Bool) → ((key : ℕ) → test key other ≡ true) → (es : List (Entry A)) → all test es ≡ true
+      → (key : ℕ) → test key (find other key es) ≡ true
+  found test o [] t key = o key
+  found test o (e ∷ es) t key =
+      let p = both (test (e .key) (e .value)) (all test es) t in
+      by (λ x. test key x ≡ true) (eqb key (e .key)) _ _ (λ same. rw (eqb-true key (e .key) same) (p .0)) (λ _. found test o es (p .1) key)
 
   -- the keys are below n, so nothing is found from n on
   abbrev pub keysBelow : ℕ → List (Entry A) → Bool
@@ -36,18 +40,11 @@ module _ {A : Type 0} (other : A) where
       let l = ltb-true (e .key) n (p .0) in
       rw (ne-eqb key (e .key) (λ q. omega arith)) (not-found n es (p .1) key h)
 
-abbrev isSane : Row → Bool
-isSane r = leb (r .place + r .width) programSize && (leb (r .width) 3 && leb (r .highest) 127)
+-- the row of a controller that is not in the table
+abbrev pub unlisted : Row
+unlisted = rowAs 0 0 0 0 none
 
-pub row-sane : (controller : ℕ) → Sane (rowOf controller)
-unfolding rowOf rows
-row-sane controller =
-    let r = find (rowAs 0 0 0 0 none) controller rows in
-    let p = both (leb (r .place + r .width) programSize) (leb (r .width) 3 && leb (r .highest) 127) (found _ isSane rows refl controller) in
-    let q = both (leb (r .width) 3) (leb (r .highest) 127) (p .1) in
-    record { inside = leb-true _ _ (p .0); narrow = leb-true _ _ (q .0); low = leb-true _ _ (q .1) }
-
-pub above-127 : (controller : ℕ) → 127 < controller → rowOf controller ≡ rowAs 0 0 0 0 none
+pub above-127 : (controller : ℕ) → 127 < controller → rowOf controller ≡ unlisted
 unfolding rowOf rows
 above-127 controller h = not-found _ 128 rows refl controller h
 
@@ -72,3 +69,70 @@ above-15 byte46 h = not-found _ 16 selections refl byte46 h
 
 pub effect-in : (byte46 : ℕ) → byte46 < 16 → getD (column effectOf 16) byte46 0 ≡ effectOf byte46
 effect-in byte46 h = column-at effectOf 16 byte46 h
+
+-- Facts that hold of every row, each by one test that antt computes over the list.
+implied : (a b : Bool) → cond a b true ≡ true → a ≡ true → b ≡ true
+implied true b t e = t
+implied false b t e = absurd (false≢true e)
+
+fact : (test : ℕ → Row → Bool) → ((key : ℕ) → test key unlisted ≡ true) → all unlisted test rows ≡ true
+    → (controller : ℕ) → test controller (rowOf controller) ≡ true
+unfolding rowOf
+fact test o t controller = found unlisted test o rows t controller
+
+abbrev isSane : Row → Bool
+isSane r = leb (r .place + r .width) programSize && (leb (r .width) 3 && leb (r .highest) 127)
+
+-- 30 and 62 take every seven bits, and have three bytes
+abbrev whole-m : ℕ → Row → Bool
+whole-m formula r = cond (eqb (r .formula) formula) (leb 127 (r .highest) && eqb (r .width) 3) true
+
+module _ (controller : ℕ) where
+  pub row-sane : Sane (rowOf controller)
+  unfolding rows
+  row-sane =
+      let r = rowOf controller in
+      let p = both (leb (r .place + r .width) programSize) (leb (r .width) 3 && leb (r .highest) 127) (fact (λ _. isSane) (λ _. refl) refl controller) in
+      let q = both (leb (r .width) 3) (leb (r .highest) 127) (p .1) in
+      record { inside = leb-true _ _ (p .0); narrow = leb-true _ _ (q .0); low = leb-true _ _ (q .1) }
+
+  wholes : (formula : ℕ) → whole-m formula unlisted ≡ true → all unlisted (λ _. whole-m formula) rows ≡ true → eqb (rowOf controller .formula) formula ≡ true
+      → (127 ≤ rowOf controller .highest) × (rowOf controller .width ≡ 3)
+  wholes formula o t e =
+      let r = rowOf controller in
+      let p = both (leb 127 (r .highest)) (eqb (r .width) 3) (implied _ _ (fact (λ _. whole-m formula) (λ _. o) t controller) e) in
+      (leb-true _ _ (p .0), eqb-true _ _ (p .1))
+
+  pub whole-upper : eqb (rowOf controller .formula) m-upper ≡ true → (127 ≤ rowOf controller .highest) × (rowOf controller .width ≡ 3)
+  unfolding rows
+  whole-upper = wholes m-upper refl refl
+
+  pub whole-lower : eqb (rowOf controller .formula) m-lower ≡ true → (127 ≤ rowOf controller .highest) × (rowOf controller .width ≡ 3)
+  unfolding rows
+  whole-lower = wholes m-lower refl refl
+
+  -- a row's numbers have room in its bytes
+  pub number-room : (v : ℕ) → v ≤ rowOf controller .highest → above (rowOf controller .width) (numberBy (rowOf controller .formula) v) ≡ 0
+  unfolding rows numberBy
+  number-room v h =
+      let r = rowOf controller in
+      let roomy : ℕ → Row → Bool = λ _ r. every (λ v. eqb (above (r .width) (numberBy (r .formula) v)) 0) (r .highest + 1) in
+      eqb-true _ _ (every-at (λ v. eqb (above (r .width) (numberBy (r .formula) v)) 0) (r .highest + 1) (fact roomy (λ _. refl) refl controller) v (omega arith))
+
+  -- a shared byte is not byte 46
+  pub shared-beyond : eqb (rowOf controller .effect) none ≡ false → 46 < rowOf controller .place
+  unfolding rows
+  shared-beyond e =
+      let r = rowOf controller in
+      let beyond : ℕ → Row → Bool = λ _ r. cond (eqb (r .effect) none) true (ltb 46 (r .place)) in
+      ltb-true _ _ (rw e at (fact beyond (λ _. refl) refl controller))
+
+  -- only 19 has byte 46
+  pub beside-46 : (controller ≡ 19 → ⊥) → Outside (rowOf controller .width) (rowOf controller .place) 46
+  unfolding rows
+  beside-46 other =
+      let beside : ℕ → Row → Bool = λ k r. cond (eqb k 19) true (cond (ltb 46 (r .place)) true (leb (r .place + r .width) 46)) in
+      let none-beside : (k : ℕ) → beside k unlisted ≡ true = λ k. by (λ x. x ≡ true) (eqb k 19) true true (λ _. refl) (λ _. refl) in
+      let r = rowOf controller in
+      ⊎-elim (λ before. inl (ltb-true _ _ before)) (λ behind. inr (leb-true _ _ behind))
+      (either (ltb 46 (r .place)) (leb (r .place + r .width) 46) (rw (ne-eqb controller 19 other) at (fact beside none-beside refl controller)))

@@ -110,7 +110,8 @@ fn back_row(row: Row, edit: &[u8]) -> Reading
     if row.width == 0 {
         return Reading::Refused(17);
     }
-    if table::is_selected(row.effect, edit[46]) {
+    let byte46 = edit[46];
+    if table::is_selected(row.effect, byte46) {
         let stored = fields::read(edit, row.place as usize, row.width);
         return formulas::shown(row, stored);
     }

@@ -6,10 +6,12 @@ use mathlib.Core.Path.{_≡_, refl}
 use native.Mathlib.Omega.{arith}
 use lib.Dec.{leb}
 use lib.ListN.{length}
-use borrow.Author.Tests.{le-leb, leb-true}
+use borrow.Author.Tests.{le-leb, leb-true, eq-eqb}
 use Rattle.ground.specs.Lists.{allAtMost}
-use Rattle.ground.proofs.Tests.{both}
+use Rattle.ground.proofs.Tests.{both, by}
+use Rattle.halves.specs.declared.Moved.the-variants.{Done, Misfit, Above}
 use Rattle.halves.specs.HalfBytes.{split, join, allHalves}
+use Rattle.halves.specs.Moving.{Left, left, numberOf, fits, splitInto, joinInto}
 
 whole : (x : ℕ) → x / 16 * 16 + x % 16 ≡ x
 whole x = omega arith
@@ -62,3 +64,20 @@ pub length-join : (halves : List ℕ) → length (join halves) ≡ length halves
 length-join [] = refl
 length-join (high ∷ []) = refl
 length-join (high ∷ low ∷ xs) = omega (arith, length-join xs)
+
+-- What a caller may count on: all is moved where the lengths fit, and the half bytes are half bytes.
+pub split-done : (bytes halves : List ℕ) → length halves ≡ 2 * length bytes → splitInto bytes halves ≡ left Done (split bytes)
+unfolding splitInto
+split-done bytes halves e = rw (eq-eqb (length halves) (2 * length bytes) e)
+
+pub join-done : (halves bytes : List ℕ) → length halves ≡ 2 * length bytes → allHalves halves ≡ true → joinInto halves bytes ≡ left Done (join halves)
+unfolding joinInto
+join-done halves bytes e h = rw (eq-eqb (length halves) (2 * length bytes) e, h)
+
+-- a refusal writes nothing
+pub join-refused : (halves bytes : List ℕ) → (numberOf (joinInto halves bytes .answer) ≡ 0 → ⊥) → joinInto halves bytes .buffer ≡ bytes
+unfolding joinInto
+join-refused halves bytes =
+    by (λ (l : Left). (numberOf (l .answer) ≡ 0 → ⊥) → l .buffer ≡ bytes) (fits bytes halves) _ _
+    (λ _. by (λ (l : Left). (numberOf (l .answer) ≡ 0 → ⊥) → l .buffer ≡ bytes) (allHalves halves) _ _ (λ _ n. absurd (n refl)) (λ _ _. refl))
+    (λ _ _. refl)

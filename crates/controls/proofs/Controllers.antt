@@ -1,0 +1,120 @@
+-- The theorems of applying, for every controller, value and edit buffer.
+use Prim.Native.Nat.{ℕ, _+_, _*_, _/_, _%_, _≤_, _<_}
+use mathlib.Core.Bool.{Bool, true, false, cond}
+use mathlib.Core.List.{List}
+use mathlib.Core.Logic.{_⊎_, inl, inr, ⊎-elim}
+use mathlib.Core.Path.{_≡_, refl, sym, ap, _∙_}
+use native.Mathlib.Nat.{lt-of-not-le}
+use native.Mathlib.Omega.{arith}
+use lib.Dec.{eqb, ltb}
+use lib.ListN.{length, getD}
+use borrow.Author.Tests.{le-ltb, ne-eqb, eq-eqb, ltb-true, ltb-false, eqb-true, eqb-false}
+use Rattle.ground.specs.Lists.{allAtMost}
+use Rattle.ground.proofs.Tests.{by}
+use Rattle.ground.proofs.Computed.{every, every-at}
+use Rattle.controls.specs.declared.Row.{Row}
+use Rattle.controls.specs.declared.Change.{Change}
+use Rattle.controls.specs.declared.Change.the-variants as change
+use Rattle.controls.specs.declared.Reading.{Reading}
+use Rattle.controls.specs.declared.Reading.the-variants as reading
+use Rattle.controls.specs.Formulas.{m-upper, m-lower, mOf, nextBy}
+use Rattle.controls.specs.Table.{programSize, none, chorus, rotary, rows, rowOf, selections, effectOf, selected}
+use Rattle.controls.specs.Fields.{readAt, putAt}
+use Rattle.controls.specs.Applying.{Left, left, store, applyOf}
+use Rattle.controls.specs.Showing.{shownOf, backOf}
+use Rattle.controls.proofs.Bytes.{Outside, above, length-put, put-outside, read-put, put-read}
+use Rattle.controls.proofs.Rows.{row-sane, above-127, whole-upper, whole-lower, number-room, shared-beyond, beside-46}
+use Rattle.controls.proofs.Back.{Gives, Least, NoneGives, Shown, shown, next-upper, next-lower, next-plain, m-small, m-of-six}
+
+-- the buffer is long enough, the controller is in the table, and its effect is selected
+pub record Open (controller : ℕ) (edit : List ℕ) : Type 0 where
+  pub long : programSize ≤ length edit
+  pub listed : 1 ≤ rowOf controller .width
+  pub chosen : selected (rowOf controller .effect) (getD edit 46 0) ≡ true
+
+module _ (controller value : ℕ) (edit : List ℕ) where
+  -- what holds of every refusal, and of the stored number where the move is allowed, holds of applying
+  apply-cases : (P : Left → Type 0) → ((number : ℕ) → P (left (change.Refused number) edit))
+      → (Open controller edit → value ≤ rowOf controller .highest → P (left change.Applied (store (rowOf controller) value edit)))
+      → P (applyOf controller value edit)
+  unfolding applyOf
+  apply-cases P refused applied =
+      let r = rowOf controller in
+      by P (ltb (length edit) programSize) _ _ (λ _. refused 30)
+      (λ l. by P (eqb (r .width) 0) _ _ (λ _. refused 17)
+      (λ w. by P (ltb (r .highest) value) _ _ (λ _. refused 18)
+      (λ h. by P (selected (r .effect) (getD edit 46 0)) _ _
+      (λ s. let some = eqb-false (r .width) 0 w in applied (record { long = ltb-false _ _ l; listed = omega arith; chosen = s }) (ltb-false _ _ h))
+      (λ _. refused 19))))
+
+  -- Applied exactly when row, range and effect allow.
+  pub applied : Open controller edit → value ≤ rowOf controller .highest
+      → applyOf controller value edit ≡ left change.Applied (store (rowOf controller) value edit)
+  unfolding applyOf
+  applied o h =
+      let r = rowOf controller in
+      let l = o .listed in
+      rw (le-ltb (length edit) programSize (o .long), ne-eqb (r .width) 0 (λ e. omega arith), le-ltb (r .highest) value h, o .chosen)
+
+  pub applied-only : applyOf controller value edit .answer ≡ change.Applied → Open controller edit × (value ≤ rowOf controller .highest)
+  applied-only =
+      apply-cases (λ x. x .answer ≡ change.Applied → Open controller edit × (value ≤ rowOf controller .highest))
+      (λ number e. let z : _≡_ {A = ℕ} 0 1 = cc in absurd (omega arith))
+      (λ o h e. (o, h))
+
+  pub not-selected : programSize ≤ length edit → 1 ≤ rowOf controller .width → value ≤ rowOf controller .highest
+      → selected (rowOf controller .effect) (getD edit 46 0) ≡ false → applyOf controller value edit ≡ left (change.Refused 19) edit
+  unfolding applyOf
+  not-selected long some h s =
+      let r = rowOf controller in
+      rw (le-ltb (length edit) programSize long, ne-eqb (r .width) 0 (λ e. omega arith), le-ltb (r .highest) value h, s)
+
+  -- A refusal changes no byte.
+  pub refused-nothing : (number : ℕ) → applyOf controller value edit .answer ≡ change.Refused number → applyOf controller value edit .edit ≡ edit
+  refused-nothing number =
+      apply-cases (λ x. x .answer ≡ change.Refused number → x .edit ≡ edit)
+      (λ _ _. refl)
+      (λ _ _ e. let z : _≡_ {A = ℕ} 0 1 = cc in absurd (omega arith))
+
+  -- Only its row's bytes change.
+  pub only-its-bytes : (k : ℕ) → Outside (rowOf controller .width) (rowOf controller .place) k
+      → getD (applyOf controller value edit .edit) k 0 ≡ getD edit k 0
+  unfolding store
+  only-its-bytes k o =
+      apply-cases (λ x. getD (x .edit) k 0 ≡ getD edit k 0)
+      (λ _. refl)
+      (λ _ _. put-outside (rowOf controller .width) (rowOf controller .place) _ edit k o)
+
+  pub length-kept : length (applyOf controller value edit .edit) ≡ length edit
+  unfolding store
+  length-kept =
+      apply-cases (λ x. length (x .edit) ≡ length edit) (λ _. refl) (λ _ _. length-put (rowOf controller .width) (rowOf controller .place) _ edit)
+
+-- The selecting byte is written by 19 alone.
+pub only-19-selects : (controller value : ℕ) (edit : List ℕ) → (controller ≡ 19 → ⊥) → getD (applyOf controller value edit .edit) 46 0 ≡ getD edit 46 0
+only-19-selects controller value edit other = only-its-bytes controller value edit 46 (beside-46 controller other)
+
+-- "Our old program wrote a rotary move there while a flanger was selected." 000: the flangers are 1, 3, 13 and 15.
+abbrev pub Flanger : ℕ → Type 0
+Flanger byte46 = (byte46 ≡ 1) ⊎ ((byte46 ≡ 3) ⊎ ((byte46 ≡ 13) ⊎ (byte46 ≡ 15)))
+
+abbrev pub RotaryMove : ℕ → Type 0
+RotaryMove controller = (controller ≡ 55) ⊎ ((controller ≡ 56) ⊎ (controller ≡ 57))
+
+flanger-effect : (byte46 : ℕ) → Flanger byte46 → effectOf byte46 ≡ chorus
+unfolding effectOf selections
+flanger-effect byte46 f = ⊎-elim (λ e. rw e) (λ f. ⊎-elim (λ e. rw e) (λ f. ⊎-elim (λ e. rw e) (λ e. rw e) f) f) f
+
+rotary-row : (controller : ℕ) → RotaryMove controller
+    → (rowOf controller .effect ≡ rotary) × (rowOf controller .highest ≡ 127) × (1 ≤ rowOf controller .width)
+unfolding rowOf rows
+rotary-row controller m =
+    ⊎-elim (λ e. rw e (refl, refl, omega arith)) (λ m. ⊎-elim (λ e. rw e (refl, refl, omega arith)) (λ e. rw e (refl, refl, omega arith)) m) m
+
+-- The demand's own story: the move is refused with 19, and no byte changes, whatever else the buffer holds.
+pub rotary-under-flanger : (controller value : ℕ) (edit : List ℕ) → RotaryMove controller → value ≤ 127 → programSize ≤ length edit
+    → Flanger (getD edit 46 0) → applyOf controller value edit ≡ left (change.Refused 19) edit
+unfolding selected
+rotary-under-flanger controller value edit m h long f =
+    let r = rotary-row controller m in
+    not-selected controller value edit long (r .2) (omega arith) (rw (r .0, flanger-effect (getD edit 46 0) f))
