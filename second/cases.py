@@ -1,0 +1,140 @@
+"""Check controllers.py against the bench cases of document 01."""
+
+from controllers import TABLE, apply, back, join, read, scale, split, store
+
+LONG = (26, 27, 28)  # "30 and 62, bytes 26 to 28"
+
+
+def expect(case, got, wanted):
+    """Raise where a case gives something else than the document."""
+    if got != wanted:
+        raise AssertionError(f'{case}: {got} instead of {wanted}')
+
+
+def buffer_with(changes):
+    """Return 72 zero bytes with some places changed."""
+    buffer = bytearray(72)
+    for place, byte in changes.items():
+        buffer[place] = byte
+    return buffer
+
+
+def check_halves():
+    """Half bytes out and in, and one that is none."""
+    # "A7 travels as 0A 07; 0A 07 reads A7; 10 00 is 16."
+    expect('A7 travels', split(b'\xA7'), b'\x0A\x07')
+    expect('0A 07 joins', join(b'\x0A\x07'), b'\xA7')
+    expect('0A 07 reads', read(b'\x0A\x07'), ('value', b'\xA7'))
+    expect('10 00', read(b'\x10\x00'), ('refused', 16))
+
+
+def check_scaling():
+    """The numbers the formulas give."""
+    cases = (
+        (25, 63, 0), (25, 64, 1),
+        (23, 0, 96), (23, 64, 47), (23, 127, 0),
+        (42, 21, 0), (42, 22, 1), (42, 127, 5),
+        (51, 127, 6350), (52, 127, 312), (54, 127, 774),
+        (56, 0, 100), (56, 127, 2894),
+        (12, 27, 27),
+    )
+    for controller, value, number in cases:
+        expect(f'{controller} at {value}', scale(controller, value),
+               ('value', number))
+    # "A controller not in the table or above 127, and 30 and 62 ... are 17"
+    for controller in (0, 30, 62, 120, 127, 128):
+        expect(f'{controller} at 200', scale(controller, 200),
+               ('refused', 17))
+    # "then a value above its range or above 127 is 18"
+    for controller, value in ((12, 28), (71, 16), (19, 16), (25, 128)):
+        expect(f'{controller} at {value}', scale(controller, value),
+               ('refused', 18))
+
+
+def check_applying():
+    """The answer, and the whole buffer afterwards."""
+    cases = (
+        # controller, value, byte 46, answer, bytes changed
+        (51, 127, 0, 3, {48: 0xCE, 49: 0x18}),
+        (56, 0, 2, 3, {49: 100, 50: 0}),
+        (56, 127, 2, 3, {49: 0x4E, 50: 0x0B}),
+        (12, 27, 0, 3, {8: 27}),
+        (12, 28, 0, 18, {}),
+        (55, 127, 1, 19, {}),
+        (55, 128, 1, 18, {}),
+        (0, 128, 1, 17, {}),
+        # "any value not listed, 6 and 10 too, gives 19"
+        (51, 1, 6, 19, {}),
+        (51, 1, 10, 19, {}),
+    )
+    for controller, value, setting, answer, changes in cases:
+        buffer = buffer_with({46: setting})
+        case = f'{controller} at {value}, byte 46 at {setting}'
+        expect(case, apply(controller, value, buffer), answer)
+        expect(case, buffer, buffer_with({46: setting, **changes}))
+    short = bytearray(71)
+    expect('71 bytes applied', apply(0, 128, short), 30)
+    expect('71 bytes kept', short, bytearray(71))
+
+
+def check_parts():
+    """30 and 62 over a stored number."""
+    buffer = bytearray(72)
+    steps = (
+        # "From zero, 30 at 64: bytes 00 C0 00; then 62 at 1: 06 C0 00."
+        (30, 64, '00 C0 00'), (62, 1, '06 C0 00'),
+        # "30 and 62 both 127: FA 7F 01."
+        (30, 127, '06 7D 01'), (62, 127, 'FA 7F 01'),
+    )
+    for controller, value, stored in steps:
+        case = f'{controller} at {value}'
+        expect(case, apply(controller, value, buffer), 3)
+        expect(case, buffer, buffer_with(dict(
+            zip(LONG, bytes.fromhex(stored)))))
+    # the cap: "at most 16,383", and the dropped remainder
+    for controller, before, after in ((62, 0xFFFFFF, 97536), (30, 7, 6)):
+        store(LONG, before, buffer)
+        apply(controller, 0, buffer)
+        expect(f'{controller} over {before}',
+               int.from_bytes(buffer[26:29], 'little'), after)
+
+
+def check_back():
+    """What the edit buffer shows."""
+    cases = (
+        (13, {9: 63}, ('value', 126)),
+        (23, {16: 0}, ('value', 126)),
+        (25, {0: 2}, ('refused', 40)),
+        (52, {50: 1}, ('refused', 40)),
+        (52, {50: 2}, ('value', 1)),
+        # "within the controller's range"
+        (12, {8: 27}, ('value', 27)),
+        (12, {8: 28}, ('refused', 40)),
+        (19, {46: 16}, ('refused', 40)),
+        # "any value not listed ... gives 19"
+        (55, {46: 1, 48: 2}, ('refused', 19)),
+        # "they show m's upper and lower seven bits"
+        (30, {26: 0x06, 27: 0xC0}, ('value', 64)),
+        (62, {26: 0x06, 27: 0xC0}, ('value', 1)),
+        (30, {26: 0xFA, 27: 0x7F, 28: 0x01}, ('value', 127)),
+        (62, {26: 0x00, 27: 0x80, 28: 0x01}, ('refused', 40)),
+        (62, {26: 0x07}, ('refused', 40)),
+        (0, {}, ('refused', 17)),
+    )
+    for controller, changes, answer in cases:
+        expect(f'back {controller} of {changes}',
+               back(controller, buffer_with(changes)), answer)
+    expect('back of 71 bytes', back(0, bytearray(71)), ('refused', 30))
+
+
+def check():
+    """Raise on the first wrong case."""
+    expect('"These 49 controllers are all"', len(TABLE), 49)
+    check_halves()
+    check_scaling()
+    check_applying()
+    check_parts()
+    check_back()
+
+
+check()

@@ -1,0 +1,213 @@
+"""Half bytes and controllers of document 01, written from its text alone."""
+
+from typing import Callable, NamedTuple, Optional
+
+EDIT_LENGTH = 72  # "one edit buffer, 72 bytes each"
+SELECTOR = 46     # "Byte 46 selects"
+TOP = 127         # "above 127 is 18"
+TOP_M = 16383     # "m up to 16,383"
+
+# "Numbers the box returns"
+APPLIED = 3        # "controller applied"
+BAD_HALF = 16      # "a data byte above 0x0F"
+UNKNOWN = 17       # "controller not in the table"
+OUT_OF_RANGE = 18  # "controller value out of range"
+NOT_SELECTED = 19  # "its effect is not selected"
+TOO_SHORT = 30     # "a lent buffer too short"
+NO_VALUE = 40      # "no controller value gives the stored value"
+
+# "v is the value received, division drops the remainder, a pair c>b is
+# controller and byte."  Each row: pairs, formula, highest value.
+OWN = (
+    # "v/64"
+    ('25>0 26>1 27>2 28>3 50>4 36>5 22>6 73>7 47>24 37>38',
+     lambda v: v // 64, TOP),
+    # "v/2"
+    ('13>9 20>10 14>11 15>12 16>13 21>14 17>15 24>17 32>34 34>36 38>39 '
+     '39>40 40>41 41>42 18>43 72>45 1>47',
+     lambda v: v // 2, TOP),
+    # "v"; "12>8 up to 27; 71>44 and 19>46 up to 15"
+    ('4>18 44>19 45>20 7>22 46>23', lambda v: v, TOP),
+    ('12>8', lambda v: v, 27),
+    ('71>44 19>46', lambda v: v, 15),
+    # "23>16: (127 - v) x 194 / 256"
+    ('23>16', lambda v: (127 - v) * 194 // 256, TOP),
+    # "30 and 62, bytes 26 to 28, lowest first": no formula of v alone
+    ('30>26,27,28 62>26,27,28', None, TOP),
+)
+
+# "Bytes 48 to 54 are shared."  "Two-byte fields are lowest first."
+# Each row: the values of byte 46, then its pairs, each with a formula.
+SHARED = (
+    ((14,), (
+        ('49>48', lambda v: v // 2),)),
+    ((7, 11), (
+        ('42>48', lambda v: v // 22),)),
+    ((0, 1, 3, 4, 8, 12, 13, 15), (
+        ('51>48,49', lambda v: v * 50),
+        ('52>50,51', lambda v: v * 256 // 104),
+        ('53>52', lambda v: v),
+        ('54>53,54', lambda v: v * 256 // 42))),
+    ((2,), (
+        ('55>48', lambda v: v // 64),
+        ('56>49,50 57>51,52', lambda v: v * 22 + 100))),
+    ((5, 9), (
+        ('58>48,49', lambda v: v * 25),
+        ('59>50', lambda v: v))),
+)
+
+
+class Rule(NamedTuple):
+    """What the page says of one controller."""
+
+    field: tuple                 # its bytes, "lowest first"
+    formula: Optional[Callable]  # None for 30 and 62
+    top: int                     # highest value taken
+    chosen_by: Optional[tuple]   # values of byte 46; None: not shared
+    shown: dict                  # stored number to the value shown
+
+
+def invert(formula, top):
+    """Map each stored number to the smallest value that gives it."""
+    if formula is None:
+        return {}
+    # "the smallest value within the controller's range whose formula gives
+    # the stored number": going down, a smaller value replaces a larger one.
+    return {formula(value): value for value in range(top, -1, -1)}
+
+
+def read_pairs(pairs, formula, top, chosen_by):
+    """Yield (controller, rule) for each pair c>b of a row."""
+    for pair in pairs.split():
+        controller, places = pair.split('>')
+        field = tuple(int(place) for place in places.split(','))
+        yield int(controller), Rule(field, formula, top, chosen_by,
+                                    invert(formula, top))
+
+
+def read_page():
+    """Return the rules of all controllers, in the page's order."""
+    table = {}
+    for pairs, formula, top in OWN:
+        table.update(read_pairs(pairs, formula, top, None))
+    for chosen_by, row in SHARED:
+        for pairs, formula in row:
+            table.update(read_pairs(pairs, formula, TOP, chosen_by))
+    return table
+
+
+TABLE = read_page()  # "These 49 controllers are all."
+
+
+def split(data: bytes) -> bytes:
+    """Return each byte "as its high half, then its low half"."""
+    return bytes(half for byte in data for half in (byte >> 4, byte & 0x0F))
+
+
+def join(halves: bytes) -> bytes:
+    """Return the bytes of half bytes that are all at most 0x0F."""
+    return bytes(high << 4 | low
+                 for high, low in zip(halves[::2], halves[1::2]))
+
+
+def read(halves: bytes) -> tuple:
+    """Join half bytes, or refuse "a data byte above 0x0F"."""
+    if any(half > 0x0F for half in halves):
+        return 'refused', BAD_HALF
+    return 'value', join(halves)
+
+
+def load(field, edit):
+    """Return the number in a field, "all eight bits of each byte read"."""
+    number = 0
+    for place in reversed(field):
+        number = number << 8 | edit[place]
+    return number
+
+
+def store(field, number, edit):
+    """Write a number into a field, "lowest first"."""
+    for place in field:
+        edit[place] = number & 0xFF
+        number >>= 8
+
+
+def is_selected(rule, edit):
+    """Say whether byte 46 selects: "any value not listed ... gives 19"."""
+    return rule.chosen_by is None or edit[SELECTOR] in rule.chosen_by
+
+
+def replace_part(controller, value, stored):
+    """Return the number that 30 or 62 stores over the stored one."""
+    # "Let m be the stored number / 6, at most 16,383."
+    m = min(stored // 6, TOP_M)
+    # "30 replaces m's upper seven bits, 62 its lower seven"
+    if controller == 30:
+        m = value << 7 | m & 0x7F
+    else:
+        m = m & ~0x7F | value
+    return 6 * m  # "6 x m is stored"
+
+
+def show_part(controller, stored):
+    """Return what 30 or 62 shows of the stored number, None for nothing."""
+    # "the number must be 6 x m with m up to 16,383"
+    m, rest = divmod(stored, 6)
+    if rest or m > TOP_M:
+        return None
+    # "they show m's upper and lower seven bits"
+    return m >> 7 if controller == 30 else m & 0x7F
+
+
+def scale(controller: int, value: int) -> tuple:
+    """Return ('value', the formula's number) or ('refused', 17 or 18)."""
+    rule = TABLE.get(controller)
+    # "A controller not in the table or above 127, and 30 and 62, which need
+    # a stored number, are 17"
+    if rule is None or rule.formula is None:
+        return 'refused', UNKNOWN
+    # "then a value above its range or above 127 is 18"
+    if value > rule.top:
+        return 'refused', OUT_OF_RANGE
+    return 'value', rule.formula(value)
+
+
+def apply(controller: int, value: int, edit: bytearray) -> int:
+    """Change the edit buffer and return 3, or return 30, 17, 18 or 19."""
+    if len(edit) < EDIT_LENGTH:
+        return TOO_SHORT
+    rule = TABLE.get(controller)
+    if rule is None:
+        return UNKNOWN
+    if value > rule.top:
+        return OUT_OF_RANGE
+    if not is_selected(rule, edit):
+        return NOT_SELECTED
+    if rule.formula is None:
+        number = replace_part(controller, value, load(rule.field, edit))
+    else:
+        # "The formula's number is stored as it comes"
+        number = rule.formula(value)
+    store(rule.field, number, edit)
+    return APPLIED
+
+
+def back(controller: int, edit: bytes) -> tuple:
+    """Return ('value', the value shown) or ('refused', 30, 17, 19 or 40)."""
+    # "Tests: 30, 17, 19, 40."
+    if len(edit) < EDIT_LENGTH:
+        return 'refused', TOO_SHORT
+    rule = TABLE.get(controller)
+    if rule is None:
+        return 'refused', UNKNOWN
+    if not is_selected(rule, edit):
+        return 'refused', NOT_SELECTED
+    stored = load(rule.field, edit)
+    if rule.formula is None:
+        value = show_part(controller, stored)
+    else:
+        value = rule.shown.get(stored)
+    # "refused with 40 exactly if none exists"
+    if value is None:
+        return 'refused', NO_VALUE
+    return 'value', value
