@@ -1,12 +1,12 @@
 -- Laws of lists that are read, or written from the front, one number after the other.
-use Prim.Native.Nat.{ℕ, zero, suc, _+_, _≤_, _<_}
+use Prim.Native.Nat.{ℕ, zero, suc, _+_, _-_, _≤_, _<_}
 use mathlib.Core.List.{List, [], _∷_, _++_, append-nil}
 use mathlib.Core.Bool.{Bool, true, _&&_}
 use mathlib.Core.Path.{_≡_, refl}
 use native.Mathlib.Omega.{arith}
 use native.Mathlib.Numerals.{add-one}
 use lib.Dec.{leb}
-use lib.ListN.{length, getD, take, drop, set}
+use lib.ListN.{length, getD, take, drop, set, length-drop}
 use lib.Seq.{drop-cons, take-suc-set, append-snoc, take-all}
 use borrow.Author.Tests.{leb-true}
 use Rattle.ground.specs.Lists.{allAtMost}
@@ -37,3 +37,7 @@ written xs i v rest h = rw (add-one, take-suc-set xs i v, append-snoc)
 -- at the end all is written and nothing is left
 pub all-written : (xs rest whole : List ℕ) (i : ℕ) → length xs ≤ i → rest ≡ [] → take i xs ++ rest ≡ whole → xs ≡ whole
 all-written xs rest whole i h e inv = rw (e, append-nil, take-all i xs h) at inv
+
+-- a part that goes to the end
+pub to-end : (a : ℕ) (xs : List ℕ) → take (length xs - a) (drop a xs) ≡ drop a xs
+to-end a xs = take-all (length xs - a) (drop a xs) (simp length-drop (omega arith))

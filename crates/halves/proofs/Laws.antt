@@ -2,13 +2,14 @@
 use Prim.Native.Nat.{ℕ, _+_, _*_, _/_, _%_, _-_, _≤_}
 use mathlib.Core.List.{List, [], _∷_}
 use mathlib.Core.Bool.{true, _&&_}
-use mathlib.Core.Path.{_≡_, refl}
+use mathlib.Core.Path.{_≡_, refl, ap, _∙_}
 use native.Mathlib.Omega.{arith}
 use lib.Dec.{leb}
 use lib.ListN.{length}
 use borrow.Author.Tests.{le-leb, leb-true, eq-eqb}
 use Rattle.ground.specs.Lists.{allAtMost}
 use Rattle.ground.proofs.Tests.{both, by}
+use Rattle.halves.specs.declared.Moved.{Moved}
 use Rattle.halves.specs.declared.Moved.the-variants.{Done, Misfit, Above}
 use Rattle.halves.specs.HalfBytes.{split, join, allHalves}
 use Rattle.halves.specs.Moving.{Left, left, numberOf, fits, splitInto, joinInto}
@@ -73,6 +74,14 @@ split-done bytes halves e = rw (eq-eqb (length halves) (2 * length bytes) e)
 pub join-done : (halves bytes : List ℕ) → length halves ≡ 2 * length bytes → allHalves halves ≡ true → joinInto halves bytes ≡ left Done (join halves)
 unfolding joinInto
 join-done halves bytes e h = rw (eq-eqb (length halves) (2 * length bytes) e, h)
+
+-- what a call leaves in a buffer that fits
+pub split-leaves : (bytes halves x : List ℕ) (r : Moved) → left r x ≡ splitInto bytes halves → length halves ≡ 2 * length bytes → x ≡ split bytes
+split-leaves bytes halves x r e h = ap (λ (l : Left). l .buffer) (e ∙ split-done bytes halves h)
+
+pub join-leaves : (halves bytes x : List ℕ) (r : Moved) → left r x ≡ joinInto halves bytes → length halves ≡ 2 * length bytes → allHalves halves ≡ true
+    → x ≡ join halves
+join-leaves halves bytes x r e h a = ap (λ (l : Left). l .buffer) (e ∙ join-done halves bytes h a)
 
 -- a refusal writes nothing
 pub join-refused : (halves bytes : List ℕ) → (numberOf (joinInto halves bytes .answer) ≡ 0 → ⊥) → joinInto halves bytes .buffer ≡ bytes

@@ -1,0 +1,29 @@
+-- Laws of parts of memory that are lent: sent as a dump, or stored from one.
+use Prim.Native.Nat.{ℕ, _+_, _-_, _*_, _≤_}
+use mathlib.Core.Bool.{true}
+use mathlib.Core.List.{List}
+use mathlib.Core.Path.{_≡_, ap, _∙_}
+use native.Mathlib.Nat.{add-sub-cancel-left, mul-le-mul-right}
+use native.Mathlib.Omega.{arith}
+use lib.ListN.{length, take, drop}
+use Rattle.ground.proofs.Lists.{to-end}
+use Rattle.halves.specs.HalfBytes.{join, allHalves}
+use Rattle.sysex.specs.declared.Answer.the-variants.{Sent}
+use Rattle.sysex.specs.Memory.{partOf, putPart}
+use Rattle.sysex.specs.Forms.{dumpOf}
+use Rattle.sysex.specs.Carrying.{left, written, answered}
+
+pub answered-by : (kind place count n : ℕ) (pp memory reply part x : List ℕ) → n ≡ length (dumpOf kind pp part) → x ≡ written (dumpOf kind pp part) reply
+    → part ≡ partOf place count memory → left (Sent n) memory x ≡ answered kind pp place count memory reply
+answered-by kind place count n pp memory reply part x e f g =
+    let long = e ∙ ap (λ (bytes : List ℕ). length (dumpOf kind pp bytes)) g in
+    let whole = f ∙ ap (λ (bytes : List ℕ). written (dumpOf kind pp bytes) reply) g in
+    λ i. left (Sent (long i)) memory (whole i)
+
+pub stored-by : (place count from first : ℕ) (body memory x : List ℕ) → x ≡ join (take (length body - from) (drop from body)) → from ≡ first
+    → putPart place (place + count - place) x memory ≡ putPart place count (join (drop first body)) memory
+stored-by place count from first body memory x e f = rw (add-sub-cancel-left place count, e, to-end from body, f)
+
+-- a program's part lies among the programs
+pub program-inside : (size p : ℕ) → p ≤ 35 → p * size + size ≤ 36 * size
+program-inside size p h = let most = mul-le-mul-right size h in omega arith

@@ -1,0 +1,37 @@
+-- What comes before the data, the data, the last byte.
+use denote.Ref.{now}
+use mathlib.Core.Path.{refl, _∙_, sym}
+use native.Mathlib.Omega.{arith}
+use lib.ListN.{length-take, length-drop}
+use Rattle.halves.proofs.Laws.{split-leaves}
+use Rattle.sysex.proofs.Writing.{dump-length, dumped}
+use borrow.Author.Needs.{needs}
+use Rattle.sysex.proofs.answering.send.Statement.{statement}
+use Rattle.sysex.proofs.answering.send.Tie as tie
+
+returns : tie.Need-returns
+returns c =
+    let a = c .before .before .before .before .before .before .before .before .before .before .before .before .before .before .before .before .args in
+    let b = c .before .before .before .before .before .before .before .before .before .before .before .begin in
+    let s = c .before .before .before .before .before .before .before .split-into in
+    let halves = split-leaves (now (a .part)) _ _ _ (s .ensures) (simp (length-take, length-drop) (omega arith)) in (
+      omega (arith, dump-length (a .kind) (now (a .pp)) (now (a .part))),
+      dumped (a .kind) (now (a .pp)) (now (a .part)) (b .result) _ (now (a .reply)) _ _ _ (b .ensures .0) (b .ensures .1) halves refl (c .before .before .write .ensures),
+    )
+
+pub send-spec : {M : Type 1} → statement M
+send-spec =
+    tie.close
+    (tie.spec
+    (λ c κs. search needs)
+    (λ c. search needs)
+    (λ c. search needs)
+    (λ c. search needs)
+    (λ c. search needs)
+    (λ c. search needs)
+    (λ c κs. search needs)
+    (λ c. search needs)
+    (λ c κs. search needs)
+    (λ c. search needs)
+    (λ c. search needs)
+    returns)

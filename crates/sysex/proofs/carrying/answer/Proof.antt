@@ -1,0 +1,38 @@
+-- The part of memory is the one that is sent.
+use denote.Ref.{now}
+use Prim.Native.Nat.{ℕ, _+_, _-_}
+use mathlib.Core.Path.{ap}
+use native.Mathlib.Nat.{add-sub-cancel-left}
+use native.Mathlib.Omega.{arith}
+use lib.ListN.{take, drop, length-take, length-drop}
+use Rattle.sysex.proofs.Writing.{dump-length}
+use Rattle.sysex.proofs.Parts.{answered-by}
+use borrow.Author.Needs.{needs}
+use Rattle.sysex.proofs.carrying.answer.Statement.{statement}
+use Rattle.sysex.proofs.carrying.answer.Tie as tie
+
+cast-t15 : tie.Need-cast-t15
+cast-t15 c =
+    let a = c .before .before .before .before .before .before .before .before .args in
+    let part = take (a .place + a .count - a .place) (drop (a .place) (now (a .memory))) in
+    omega (arith, dump-length (a .kind) (now (a .pp)) part, length-take (a .place + a .count - a .place) (drop (a .place) (now (a .memory))))
+
+returns : tie.Need-returns
+returns c =
+    let a = c .before .before .before .before .before .before .before .before .args in
+    let s = c .before .before .send in
+    answered-by (a .kind) (a .place) (a .count) _ (now (a .pp)) (now (a .memory)) (now (a .reply)) _ _ (s .ensures .0) (s .ensures .1)
+    (ap (λ (k : ℕ). take k (drop (a .place) (now (a .memory)))) (add-sub-cancel-left (a .place) (a .count)))
+
+pub answer-spec : {M : Type 1} → statement M
+answer-spec =
+    tie.close
+    (tie.spec
+    (λ c. search needs)
+    (λ c. search needs)
+    (λ c. search needs)
+    (λ c. search needs)
+    (λ c κs. search needs)
+    cast-t15
+    (λ c. search needs)
+    returns)

@@ -1,0 +1,71 @@
+-- What an order does to memory and to the reply buffer.
+use Prim.Native.Nat.{ℕ, _+_, _*_, _≤_}
+use mathlib.Core.Bool.{Bool, true, cond}
+use mathlib.Core.Path.{_≡_}
+use mathlib.Core.List.{List, [], _∷_, _++_}
+use lib.Dec.{ltb}
+use lib.ListN.{length, drop}
+use Rattle.halves.specs.HalfBytes.{join, allHalves}
+use Rattle.sysex.specs.declared.Settings.{Settings}
+use Rattle.sysex.specs.declared.Order.{Order}
+use Rattle.sysex.specs.declared.Order.the-variants as order
+use Rattle.sysex.specs.declared.Answer.{Answer}
+use Rattle.sysex.specs.declared.Answer.the-variants.{Stored, Sent, Refused}
+use Rattle.sysex.specs.Memory.{programPlace, editPlace, allSize, memorySize, partOf, putPart}
+use Rattle.sysex.specs.Forms.{program, edit, all, dataPlace, longest, dumpOf, identityOf}
+use Rattle.sysex.specs.Judging.{judgeOf}
+
+-- all that stands at exit
+pub record Left : Type 0 where
+  pub answer : Answer
+  pub memory : List ℕ
+  pub reply : List ℕ
+
+abbrev pub left : Answer → List ℕ → List ℕ → Left
+left answer memory reply = record { answer = answer; memory = memory; reply = reply }
+
+-- "first bytes of the reply buffer": no byte after them changes
+abbrev pub written : List ℕ → List ℕ → List ℕ
+written bytes reply = bytes ++ drop (length bytes) reply
+
+abbrev pub sent : List ℕ → List ℕ → List ℕ → Left
+sent bytes memory reply = left (Sent (length bytes)) memory (written bytes reply)
+
+-- "Requests are answered by the dump with the same type"
+abbrev pub answered : ℕ → List ℕ → ℕ → ℕ → List ℕ → List ℕ → Left
+answered type pp place count memory reply = sent (dumpOf type pp (partOf place count memory)) memory reply
+
+-- the bytes of a dump's data into `count` bytes of memory
+abbrev pub stored : ℕ → ℕ → ℕ → List ℕ → List ℕ → List ℕ → Left
+stored type place count body memory reply = left Stored (putPart place count (join (drop (dataPlace type) body)) memory) reply
+
+-- what an order that was judged says of its body: a program is one of the 36, a dump's data are half bytes, as many as it takes
+abbrev pub HasData : ℕ → ℕ → List ℕ → Type 0
+HasData type count body = (length body ≡ dataPlace type + 2 * count) × (allHalves (drop (dataPlace type) body) ≡ true)
+
+abbrev pub Fits : ℕ → Order → List ℕ → Type 0
+Fits size (order.Identify cc) body = Unit {0}
+Fits size (order.SendProgram p) body = p ≤ 0x23
+Fits size order.SendEdit body = Unit {0}
+Fits size order.SendAll body = Unit {0}
+Fits size (order.StoreProgram p) body = (p ≤ 0x23) × HasData program size body
+Fits size order.StoreEdit body = HasData edit size body
+Fits size order.StoreAll body = HasData all (allSize size) body
+Fits size (order.Refused number) body = Unit {0}
+
+unfoldable pub actOf : ℕ → Settings → Order → List ℕ → List ℕ → List ℕ → Left
+actOf size settings (order.Identify cc) body memory reply = sent (identityOf settings cc) memory reply
+actOf size settings (order.SendProgram p) body memory reply = answered program (p ∷ []) (programPlace size p) size memory reply
+actOf size settings order.SendEdit body memory reply = answered edit [] (editPlace size) size memory reply
+actOf size settings order.SendAll body memory reply = answered all [] 0 (allSize size) memory reply
+actOf size settings (order.StoreProgram p) body memory reply = stored program (programPlace size p) size body memory reply
+actOf size settings order.StoreEdit body memory reply = stored edit (editPlace size) size body memory reply
+actOf size settings order.StoreAll body memory reply = stored all 0 (allSize size) body memory reply
+actOf size settings (order.Refused number) body memory reply = left (Refused number) memory reply
+
+-- 30 for the lent buffers, then what the body asks for
+unfoldable pub carryOf : ℕ → Settings → List ℕ → List ℕ → List ℕ → Left
+carryOf size settings body memory reply =
+    cond (ltb (length memory) (memorySize size)) (left (Refused 30) memory reply)
+    (cond (ltb (length reply) (longest size)) (left (Refused 30) memory reply)
+    (actOf size settings (judgeOf size settings body) body memory reply))

@@ -1,0 +1,5 @@
+pub mod Memory
+pub mod Forms
+pub mod Numbers
+pub mod Judging
+pub mod Carrying

@@ -1,0 +1,66 @@
+// Replies, written from the start of the reply buffer.
+ghost use mathlib.Core.Path.{_≡_};
+ghost use mathlib.Core.List.{[], _∷_, _++_};
+ghost use Prim.Native.Nat.{_≤_, _+_, _*_};
+ghost use lib.ListN.{length};
+ghost use Rattle.sysex.specs.Forms.{header, dumpOf, identityOf};
+ghost use Rattle.sysex.specs.Carrying.{written};
+use crate::Settings;
+use crate::bytes;
+use crate::judging;
+
+// The identity reply is 17 bytes.
+pub(crate) fn identify(cc: u8, settings: Settings, reply: &mut [u8])
+    requires { ⌜ 17 ≤ length (now reply) ⌝ }
+    ensures { λ _. ⌜ now (reply .exit) ≡ written (identityOf settings cc) (now (reply .entry)) ⌝ }
+{
+    let identity = [
+        0xF0,
+        0x7E,
+        cc,
+        0x06,
+        0x02,
+        0x00,
+        0x01,
+        0x0C,
+        0x00,
+        0x00,
+        0x00,
+        0x01,
+        settings.revision0,
+        settings.revision1,
+        settings.revision2,
+        settings.revision3,
+        0xF7,
+    ];
+    bytes::write(&identity, reply, 0);
+}
+
+// A dump up to its data: header, opcode, type, the program where there is one, version 0. Returns the data's place.
+fn begin(kind: u8, pp: &[u8], reply: &mut [u8]) -> usize
+    requires { ⌜ length (now pp) ≤ 1 ⌝ }
+    requires { ⌜ 9 ≤ length (now reply) ⌝ }
+    ensures { λ r. ⌜ r ≡ 8 + length (now (pp .entry)) ⌝ }
+    ensures { λ _. ⌜ now (reply .exit) ≡ written (header ++ (1 ∷ kind ∷ (now (pp .entry) ++ (0 ∷ [])))) (now (reply .entry)) ⌝ }
+{
+    bytes::write(&judging::HEADER, reply, 0);
+    bytes::write(&[1, kind], reply, 5);
+    bytes::write(pp, reply, 7);
+    let version = 7 + pp.len();
+    bytes::write(&[0], reply, version);
+    version + 1
+}
+
+// A dump of some bytes. Returns its length.
+pub(crate) fn send(kind: u8, pp: &[u8], part: &[u8], reply: &mut [u8]) -> usize
+    requires { ⌜ length (now pp) ≤ 1 ⌝ }
+    requires { ⌜ 2 * length (now part) + (9 + length (now pp)) ≤ length (now reply) ⌝ }
+    ensures { λ r. ⌜ r ≡ length (dumpOf kind (now (pp .entry)) (now (part .entry))) ⌝ }
+    ensures { λ _. ⌜ now (reply .exit) ≡ written (dumpOf kind (now (pp .entry)) (now (part .entry))) (now (reply .entry)) ⌝ }
+{
+    let place = begin(kind, pp, reply);
+    let end = place + 2 * part.len();
+    halves::split_into(part, &mut reply[place..end]);
+    bytes::write(&[0xF7], reply, end);
+    end + 1
+}

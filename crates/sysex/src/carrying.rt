@@ -1,0 +1,104 @@
+// What an order does to memory and to the reply buffer.
+ghost use mathlib.Core.Path.{_≡_};
+ghost use mathlib.Core.Bool.{true};
+ghost use mathlib.Core.List.{[], _∷_};
+ghost use Prim.Native.Nat.{_≤_, _+_, _*_};
+ghost use lib.ListN.{length, drop};
+ghost use Rattle.halves.specs.HalfBytes.{join, allHalves};
+ghost use Rattle.sysex.specs.Forms.{dataPlace, longest};
+ghost use Rattle.sysex.specs.Memory.{memorySize, putPart};
+ghost use Rattle.sysex.specs.Carrying.{left, answered, Fits, actOf, carryOf};
+use crate::Answer;
+use crate::Order;
+use crate::Settings;
+use crate::answering;
+use crate::judging;
+
+pub(crate) fn carried(
+    body: &[u8],
+    settings: Settings,
+    size: usize,
+    memory: &mut [u8],
+    reply: &mut [u8],
+) -> Answer
+    requires { ⌜ (1 ≤ size) × (size ≤ 255) ⌝ }
+    ensures { λ r. ⌜ left r (now (memory .exit)) (now (reply .exit)) ≡ carryOf size settings (now (body .entry)) (now (memory .entry)) (now (reply .entry)) ⌝ }
+{
+    if memory.len() < 37 * size {
+        return Answer::Refused(30);
+    }
+    if reply.len() < 8 + 2 * (36 * size) + 1 {
+        return Answer::Refused(30);
+    }
+    let order = judging::judged(body, settings, size);
+    act(order, body, settings, size, memory, reply)
+}
+
+fn act(
+    order: Order,
+    body: &[u8],
+    settings: Settings,
+    size: usize,
+    memory: &mut [u8],
+    reply: &mut [u8],
+) -> Answer
+    requires { ⌜ (1 ≤ size) × (size ≤ 255) ⌝ }
+    requires { ⌜ (memorySize size ≤ length (now memory)) × (longest size ≤ length (now reply)) ⌝ }
+    requires { ⌜ Fits size order (now body) ⌝ }
+    ensures { λ r. ⌜ left r (now (memory .exit)) (now (reply .exit)) ≡ actOf size settings order (now (body .entry)) (now (memory .entry)) (now (reply .entry)) ⌝ }
+{
+    match order {
+        Order::Identify(cc) => {
+            answering::identify(cc, settings, reply);
+            Answer::Sent(17)
+        }
+        Order::SendProgram(p) => {
+            answer(
+                judging::PROGRAM,
+                &[p],
+                p as usize * size,
+                size,
+                memory,
+                reply,
+            )
+        }
+        Order::SendEdit => answer(judging::EDIT, &[], 36 * size, size, memory, reply),
+        Order::SendAll => answer(judging::ALL, &[], 0, 36 * size, memory, reply),
+        Order::StoreProgram(p) => store(judging::PROGRAM, p as usize * size, size, body, memory),
+        Order::StoreEdit => store(judging::EDIT, 36 * size, size, body, memory),
+        Order::StoreAll => store(judging::ALL, 0, 36 * size, body, memory),
+        Order::Refused(number) => Answer::Refused(number),
+    }
+}
+
+// Answers a request by the dump of a part of memory.
+fn answer(
+    kind: u8,
+    pp: &[u8],
+    place: usize,
+    count: usize,
+    memory: &[u8],
+    reply: &mut [u8],
+) -> Answer
+    requires { ⌜ (length (now pp) ≤ 1) × (count ≤ 9180) ⌝ }
+    requires { ⌜ place + count ≤ length (now memory) ⌝ }
+    requires { ⌜ 2 * count + (9 + length (now pp)) ≤ length (now reply) ⌝ }
+    ensures { λ r. ⌜ left r (now (memory .entry)) (now (reply .exit)) ≡ answered kind (now (pp .entry)) place count (now (memory .entry)) (now (reply .entry)) ⌝ }
+{
+    let end = place + count;
+    let length = answering::send(kind, pp, &memory[place..end], reply);
+    Answer::Sent(length as u16)
+}
+
+// Stores the bytes of a dump's data in a part of memory.
+fn store(kind: u8, place: usize, count: usize, body: &[u8], memory: &mut [u8]) -> Answer
+    requires { ⌜ length (now body) ≡ dataPlace kind + 2 * count ⌝ }
+    requires { ⌜ allHalves (drop (dataPlace kind) (now body)) ≡ true ⌝ }
+    requires { ⌜ place + count ≤ length (now memory) ⌝ }
+    ensures { λ r. ⌜ (r ≡ Answer.Stored) × (now (memory .exit) ≡ putPart place count (join (drop (dataPlace kind) (now (body .entry)))) (now (memory .entry))) ⌝ }
+{
+    let from = judging::version_place(kind) + 1;
+    let end = place + count;
+    halves::join_into(&body[from..], &mut memory[place..end]);
+    Answer::Stored
+}

@@ -1,0 +1,201 @@
+// The tests of a body, in their order.
+ghost use mathlib.Core.Path.{_≡_};
+ghost use Prim.Native.Nat.{_≤_, _+_};
+ghost use lib.ListN.{length};
+ghost use Rattle.sysex.specs.Forms.{versionPlace, dataPlace, dataCount, bodyLength, isIdentity, isOurs};
+ghost use Rattle.sysex.specs.Judging.{firstFailed, testsOf, formTests, fieldTests, dataTests, hasProgram, orderOf, identifyOf, judgeOf};
+use crate::Order;
+use crate::Settings;
+use crate::bytes;
+
+// How every message but an identity request begins, and every dump that is sent.
+pub(crate) const HEADER: [u8; 5] = *b"\xF0\x00\x01\x0C\x01";
+
+const REQUEST: u8 = 0;
+
+pub(crate) const PROGRAM: u8 = 0;
+
+pub(crate) const EDIT: u8 = 1;
+
+pub(crate) const ALL: u8 = 2;
+
+pub(crate) fn judged(body: &[u8], settings: Settings, size: usize) -> Order
+    requires { ⌜ size ≤ 255 ⌝ }
+    ensures { λ r. ⌜ r ≡ judgeOf size settings (now (body .entry)) ⌝ }
+{
+    if is_identity(body) {
+        return identified(settings, bytes::byte_at(body, 2));
+    }
+    let number = first_failed(body, size);
+    if number == 0 {
+        return order(
+            bytes::byte_at(body, 5),
+            bytes::byte_at(body, 6),
+            bytes::byte_at(body, 7),
+        );
+    }
+    Order::Refused(number)
+}
+
+fn is_identity(body: &[u8]) -> bool
+    ensures { λ r. ⌜ r ≡ isIdentity (now (body .entry)) ⌝ }
+{
+    if body.len() != 5 {
+        return false;
+    }
+    if body[0] != 0xF0 {
+        return false;
+    }
+    if body[1] != 0x7E {
+        return false;
+    }
+    if 0x7F < body[2] {
+        return false;
+    }
+    if body[3] != 0x06 {
+        return false;
+    }
+    body[4] == 0x01
+}
+
+fn identified(settings: Settings, cc: u8) -> Order
+    ensures { λ r. ⌜ r ≡ identifyOf settings cc ⌝ }
+{
+    if is_ours(settings, cc) {
+        return Order::Identify(cc);
+    }
+    Order::Refused(22)
+}
+
+fn is_ours(settings: Settings, cc: u8) -> bool
+    ensures { λ r. ⌜ r ≡ isOurs settings cc ⌝ }
+{
+    if cc == settings.channel {
+        return true;
+    }
+    if cc == 0x7F {
+        return true;
+    }
+    settings.omni == 1
+}
+
+// The number of the first test that fails; 0 where all hold.
+fn first_failed(body: &[u8], size: usize) -> u8
+    requires { ⌜ size ≤ 255 ⌝ }
+    ensures { λ r. ⌜ r ≡ firstFailed (testsOf size (now (body .entry))) ⌝ }
+{
+    if bytes::starts(&HEADER, body) {
+        return form_failed(body, size);
+    }
+    11
+}
+
+fn form_failed(body: &[u8], size: usize) -> u8
+    requires { ⌜ size ≤ 255 ⌝ }
+    ensures { λ r. ⌜ r ≡ firstFailed (formTests size (now (body .entry))) ⌝ }
+{
+    if body.len() < 7 {
+        return 12;
+    }
+    let opcode = bytes::byte_at(body, 5);
+    if 1 < opcode {
+        return 12;
+    }
+    let kind = bytes::byte_at(body, 6);
+    if 2 < kind {
+        return 12;
+    }
+    if body.len() != body_length(size, opcode, kind) {
+        return 13;
+    }
+    fields_failed(body, size, opcode, kind)
+}
+
+// The length of a body of this opcode and type.
+fn body_length(size: usize, opcode: u8, kind: u8) -> usize
+    requires { ⌜ size ≤ 255 ⌝ }
+    ensures { λ r. ⌜ r ≡ bodyLength size opcode kind ⌝ }
+{
+    let version = version_place(kind);
+    if opcode == REQUEST {
+        return version;
+    }
+    version + 1 + data_count(size, kind)
+}
+
+// How many half bytes a dump has.
+fn data_count(size: usize, kind: u8) -> usize
+    requires { ⌜ size ≤ 255 ⌝ }
+    ensures { λ r. ⌜ (r ≡ dataCount size kind) × (r ≤ 18360) ⌝ }
+{
+    if kind == ALL {
+        2 * (36 * size)
+    } else {
+        2 * size
+    }
+}
+
+fn fields_failed(body: &[u8], size: usize, opcode: u8, kind: u8) -> u8
+    requires { ⌜ length (now body) ≡ bodyLength size opcode kind ⌝ }
+    ensures { λ r. ⌜ r ≡ firstFailed (fieldTests opcode kind (now (body .entry))) ⌝ }
+{
+    if has_program(kind, bytes::byte_at(body, 7)) {
+        if opcode == REQUEST {
+            return 0;
+        }
+        return data_failed(body, kind);
+    }
+    14
+}
+
+fn has_program(kind: u8, number: u8) -> bool
+    ensures { λ r. ⌜ r ≡ hasProgram kind number ⌝ }
+{
+    if kind == PROGRAM {
+        return number <= 0x23;
+    }
+    true
+}
+
+fn data_failed(body: &[u8], kind: u8) -> u8
+    requires { ⌜ dataPlace kind ≤ length (now body) ⌝ }
+    ensures { λ r. ⌜ r ≡ firstFailed (dataTests kind (now (body .entry))) ⌝ }
+{
+    let version = version_place(kind);
+    if bytes::byte_at(body, version) != 0 {
+        return 15;
+    }
+    let place = version + 1;
+    if halves::all_at_most(&body[place..], 0x0F) {
+        return 0;
+    }
+    16
+}
+
+// Where the version of a dump stands, one place before its data.
+pub(crate) fn version_place(kind: u8) -> usize
+    ensures { λ r. ⌜ (r ≡ versionPlace kind) × (r ≤ 8) ⌝ }
+{
+    if kind == PROGRAM { 8 } else { 7 }
+}
+
+fn order(opcode: u8, kind: u8, number: u8) -> Order
+    ensures { λ r. ⌜ r ≡ orderOf opcode kind number ⌝ }
+{
+    if opcode == REQUEST {
+        if kind == PROGRAM {
+            return Order::SendProgram(number);
+        }
+        if kind == EDIT {
+            return Order::SendEdit;
+        }
+        return Order::SendAll;
+    }
+    if kind == PROGRAM {
+        return Order::StoreProgram(number);
+    }
+    if kind == EDIT {
+        return Order::StoreEdit;
+    }
+    Order::StoreAll
+}

@@ -1,0 +1,59 @@
+// SysEx: what a message's body asks for, and what that does to memory and to the reply buffer. A body is F0 and the
+// bytes after it, without F7, as it stands in a receive buffer; nothing is assumed of its bytes.
+mod answering;
+mod bytes;
+mod carrying;
+mod judging;
+
+ghost use mathlib.Core.Path.{_≡_};
+ghost use Rattle.sysex.specs.Judging.{judgeOf};
+ghost use Rattle.sysex.specs.Carrying.{left, carryOf};
+
+// The bytes of a program. All other lengths derive from it.
+pub const PROGRAM: usize = 72;
+
+pub struct Settings {
+    pub channel: u8,
+    pub omni: u8,
+    pub revision0: u8,
+    pub revision1: u8,
+    pub revision2: u8,
+    pub revision3: u8,
+}
+
+// What a body asks for.
+pub enum Order {
+    // The identity reply, with its cc.
+    Identify(u8),
+    SendProgram(u8),
+    SendEdit,
+    SendAll,
+    StoreProgram(u8),
+    StoreEdit,
+    StoreAll,
+    Refused(u8),
+}
+
+// What the box answers, by document 01's numbers. A SysEx is stored, answered with so many bytes, or refused.
+pub enum Answer {
+    Taken,
+    Stored,
+    Sent(u16),
+    Applied,
+    Cut,
+    Refused(u8),
+}
+
+// What a body asks for.
+pub fn judge(body: &[u8], settings: Settings) -> Order
+    ensures { λ r. ⌜ r ≡ judgeOf 72 settings (now (body .entry)) ⌝ }
+{
+    judging::judged(body, settings, PROGRAM)
+}
+
+// Does what a body asks for.
+pub fn carry_out(body: &[u8], settings: Settings, memory: &mut [u8], reply: &mut [u8]) -> Answer
+    ensures { λ r. ⌜ left r (now (memory .exit)) (now (reply .exit)) ≡ carryOf 72 settings (now (body .entry)) (now (memory .entry)) (now (reply .entry)) ⌝ }
+{
+    carrying::carried(body, settings, PROGRAM, memory, reply)
+}
