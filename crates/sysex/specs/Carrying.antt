@@ -15,29 +15,28 @@ use Rattle.sysex.specs.Memory.{programPlace, editPlace, allSize, memoryS
 use Rattle.sysex.specs.Forms.{program, edit, all, dataPlace, longest, dumpOf, identityOf}
 use Rattle.sysex.specs.Judging.{judgeOf}
 
--- all that stands at exit
-pub record Left : Type 0 where
+-- what carrying out a message does: the answer, memory after it, and the bytes that are sent
+pub record Outcome : Type 0 where
   pub answer : Answer
   pub memory : List ℕ
-  pub reply : List ℕ
+  pub bytes : List ℕ
 
-abbrev pub left : Answer → List ℕ → List ℕ → Left
-left answer memory reply = record { answer = answer; memory = memory; reply = reply }
+abbrev pub outcome : Answer → List ℕ → List ℕ → Outcome
+outcome answer memory bytes = record { answer = answer; memory = memory; bytes = bytes }
 
--- "first bytes of the reply buffer": no byte after them changes
-abbrev pub written : List ℕ → List ℕ → List ℕ
-written bytes reply = bytes ++ drop (length bytes) reply
+abbrev pub refused : ℕ → List ℕ → Outcome
+refused number memory = outcome (Refused number) memory []
 
-abbrev pub sent : List ℕ → List ℕ → List ℕ → Left
-sent bytes memory reply = left (Sent (length bytes)) memory (written bytes reply)
+abbrev pub sent : List ℕ → List ℕ → Outcome
+sent bytes memory = outcome (Sent (length bytes)) memory bytes
 
 -- "Requests are answered by the dump with the same type"
-abbrev pub answered : ℕ → List ℕ → ℕ → ℕ → List ℕ → List ℕ → Left
-answered type pp place count memory reply = sent (dumpOf type pp (partOf place count memory)) memory reply
+abbrev pub answered : ℕ → List ℕ → ℕ → ℕ → List ℕ → Outcome
+answered type pp place count memory = sent (dumpOf type pp (partOf place count memory)) memory
 
 -- the bytes of a dump's data into `count` bytes of memory
-abbrev pub stored : ℕ → ℕ → ℕ → List ℕ → List ℕ → List ℕ → Left
-stored type place count body memory reply = left Stored (putPart place count (join (drop (dataPlace type) body)) memory) reply
+abbrev pub stored : ℕ → ℕ → ℕ → List ℕ → List ℕ → Outcome
+stored type place count body memory = outcome Stored (putPart place count (join (drop (dataPlace type) body)) memory) []
 
 -- what an order that was judged says of its body: a program is one of the 36, a dump's data are half bytes, as many as it takes
 abbrev pub HasData : ℕ → ℕ → List ℕ → Type 0
@@ -53,19 +52,39 @@ Fits size order.StoreEdit body = HasData edit size body
 Fits size order.StoreAll body = HasData all (allSize size) body
 Fits size (order.Refused number) body = Unit {0}
 
-unfoldable pub actOf : ℕ → Settings → Order → List ℕ → List ℕ → List ℕ → Left
-actOf size settings (order.Identify cc) body memory reply = sent (identityOf settings cc) memory reply
-actOf size settings (order.SendProgram p) body memory reply = answered program (p ∷ []) (programPlace size p) size memory reply
-actOf size settings order.SendEdit body memory reply = answered edit [] (editPlace size) size memory reply
-actOf size settings order.SendAll body memory reply = answered all [] 0 (allSize size) memory reply
-actOf size settings (order.StoreProgram p) body memory reply = stored program (programPlace size p) size body memory reply
-actOf size settings order.StoreEdit body memory reply = stored edit (editPlace size) size body memory reply
-actOf size settings order.StoreAll body memory reply = stored all 0 (allSize size) body memory reply
-actOf size settings (order.Refused number) body memory reply = left (Refused number) memory reply
+unfoldable pub orderDoes : ℕ → Settings → Order → List ℕ → List ℕ → Outcome
+orderDoes size settings (order.Identify cc) body memory = sent (identityOf settings cc) memory
+orderDoes size settings (order.SendProgram p) body memory = answered program (p ∷ []) (programPlace size p) size memory
+orderDoes size settings order.SendEdit body memory = answered edit [] (editPlace size) size memory
+orderDoes size settings order.SendAll body memory = answered all [] 0 (allSize size) memory
+orderDoes size settings (order.StoreProgram p) body memory = stored program (programPlace size p) size body memory
+orderDoes size settings order.StoreEdit body memory = stored edit (editPlace size) size body memory
+orderDoes size settings order.StoreAll body memory = stored all 0 (allSize size) body memory
+orderDoes size settings (order.Refused number) body memory = refused number memory
+
+-- what a body does
+abbrev pub bodyDoes : ℕ → Settings → List ℕ → List ℕ → Outcome
+bodyDoes size settings body memory = orderDoes size settings (judgeOf size settings body) body memory
+
+-- all that stands at exit
+pub record Left : Type 0 where
+  pub answer : Answer
+  pub memory : List ℕ
+  pub reply : List ℕ
+
+abbrev pub left : Answer → List ℕ → List ℕ → Left
+left answer memory reply = record { answer = answer; memory = memory; reply = reply }
+
+-- "first bytes of the reply buffer": no byte after them changes
+abbrev pub written : List ℕ → List ℕ → List ℕ
+written bytes reply = bytes ++ drop (length bytes) reply
+
+abbrev pub leaves : Outcome → List ℕ → Left
+leaves o reply = left (o .answer) (o .memory) (written (o .bytes) reply)
 
 -- 30 for the lent buffers, then what the body asks for
 unfoldable pub carryOf : ℕ → Settings → List ℕ → List ℕ → List ℕ → Left
 carryOf size settings body memory reply =
     cond (ltb (length memory) (memorySize size)) (left (Refused 30) memory reply)
     (cond (ltb (length reply) (longest size)) (left (Refused 30) memory reply)
-    (actOf size settings (judgeOf size settings body) body memory reply))
+    (leaves (bodyDoes size settings body memory) reply))

@@ -7,7 +7,7 @@ ghost use lib.ListN.{length, drop};
 ghost use Rattle.halves.specs.HalfBytes.{join, allHalves};
 ghost use Rattle.sysex.specs.Forms.{dataPlace, longest};
 ghost use Rattle.sysex.specs.Memory.{memorySize, putPart};
-ghost use Rattle.sysex.specs.Carrying.{left, answered, Fits, actOf, carryOf};
+ghost use Rattle.sysex.specs.Carrying.{left, leaves, answered, Fits, orderDoes, carryOf};
 use crate::Answer;
 use crate::Order;
 use crate::Settings;
@@ -45,7 +45,7 @@ fn act(
     requires { ⌜ (1 ≤ size) × (size ≤ 255) ⌝ }
     requires { ⌜ (memorySize size ≤ length (now memory)) × (longest size ≤ length (now reply)) ⌝ }
     requires { ⌜ Fits size order (now body) ⌝ }
-    ensures { λ r. ⌜ left r (now (memory .exit)) (now (reply .exit)) ≡ actOf size settings order (now (body .entry)) (now (memory .entry)) (now (reply .entry)) ⌝ }
+    ensures { λ r. ⌜ left r (now (memory .exit)) (now (reply .exit)) ≡ leaves (orderDoes size settings order (now (body .entry)) (now (memory .entry))) (now (reply .entry)) ⌝ }
 {
     match order {
         Order::Identify(cc) => {
@@ -83,7 +83,7 @@ fn answer(
     requires { ⌜ (length (now pp) ≤ 1) × (count ≤ 9180) ⌝ }
     requires { ⌜ place + count ≤ length (now memory) ⌝ }
     requires { ⌜ 2 * count + (9 + length (now pp)) ≤ length (now reply) ⌝ }
-    ensures { λ r. ⌜ left r (now (memory .entry)) (now (reply .exit)) ≡ answered kind (now (pp .entry)) place count (now (memory .entry)) (now (reply .entry)) ⌝ }
+    ensures { λ r. ⌜ left r (now (memory .entry)) (now (reply .exit)) ≡ leaves (answered kind (now (pp .entry)) place count (now (memory .entry))) (now (reply .entry)) ⌝ }
 {
     let end = place + count;
     let length = answering::send(kind, pp, &memory[place..end], reply);

@@ -1,67 +1,67 @@
--- Each order, as its case of `actOf` has it.
+-- Each order, as its case of `orderDoes` has it.
 use denote.Ref.{now}
 use mathlib.Core.Path.{refl, ap}
 use native.Mathlib.Omega.{arith}
-use Rattle.sysex.specs.Carrying.{left, actOf}
+use Rattle.sysex.specs.Carrying.{left, orderDoes}
 use Rattle.sysex.proofs.Parts.{program-inside}
 use borrow.Author.Needs.{needs}
 use Rattle.sysex.proofs.carrying.act.Statement.{statement}
 use Rattle.sysex.proofs.carrying.act.Tie as tie
 
 mul-answer : tie.Need-mul-answer
-unfolding actOf
+unfolding orderDoes
 mul-answer c = let s = c .before .before .before .before .before .before .before in let inside = program-inside (s .args .size) (c .before .before .order2 .given .0 .0) (rw (c .before .before .order2 .given .1) at (s .pre .1 .1)) in omega arith
 
 answer-requires : tie.Need-answer-requires
-unfolding actOf
+unfolding orderDoes
 answer-requires c κs = let s = c .before .before .before .before .before .before .before .before .before in let inside = program-inside (s .args .size) (c .before .before .before .before .order2 .given .0 .0) (rw (c .before .before .before .before .order2 .given .1) at (s .pre .1 .1)) in omega arith
 
 mul-store : tie.Need-mul-store
-unfolding actOf
+unfolding orderDoes
 mul-store c = let s = c .before .before .before .before .before .before in let inside = program-inside (s .args .size) (c .before .order3 .given .0 .0) (rw (c .before .order3 .given .1) at (s .pre .1 .1) .0) in omega arith
 
 store-requires : tie.Need-store-requires
-unfolding actOf
+unfolding orderDoes
 store-requires c κs = let s = c .before .before .before .before .before .before .before in let f = rw (c .before .before .order3 .given .1) at (s .pre .1 .1) in let inside = program-inside (s .args .size) (c .before .before .order3 .given .0 .0) (f .0) in (f .1 .0, (f .1 .1, omega arith))
 
 store-requires-2 : tie.Need-store-requires-2
-unfolding actOf
+unfolding orderDoes
 store-requires-2 c κs = let f = rw (c .before .enum-told3 .given .1) at (c .before .before .before .before .before .before .pre .1 .1) in (f .0, (f .1, omega arith))
 
 store-requires-3 : tie.Need-store-requires-3
-unfolding actOf
+unfolding orderDoes
 store-requires-3 c κs = let f = rw (c .before .enum-told4 .given .1) at (c .before .before .before .before .before .before .pre .1 .1) in (f .0, (f .1, omega arith))
 
 returns : tie.Need-returns
-unfolding actOf
+unfolding orderDoes
 returns c = rw (c .before .before .before .before .before .order .given .1) (ap (left _ _) (c .before .before .identify .ensures))
 
 returns-2 : tie.Need-returns-2
-unfolding actOf
+unfolding orderDoes
 returns-2 c = rw (c .before .before .before .before .before .before .before .order2 .given .1) (c .before .before .answer .ensures)
 
 returns-3 : tie.Need-returns-3
-unfolding actOf
+unfolding orderDoes
 returns-3 c = rw (c .before .before .before .before .before .before .enum-told .given .1) (c .before .before .answer2 .ensures)
 
 returns-4 : tie.Need-returns-4
-unfolding actOf
+unfolding orderDoes
 returns-4 c = rw (c .before .before .before .before .before .before .enum-told2 .given .1) (c .before .before .answer3 .ensures)
 
 returns-5 : tie.Need-returns-5
-unfolding actOf
+unfolding orderDoes
 returns-5 c = let e = c .before .before .store .ensures in rw (c .before .before .before .before .before .order3 .given .1, e .0, e .1)
 
 returns-6 : tie.Need-returns-6
-unfolding actOf
+unfolding orderDoes
 returns-6 c = let e = c .before .before .store2 .ensures in rw (c .before .before .before .before .enum-told3 .given .1, e .0, e .1)
 
 returns-7 : tie.Need-returns-7
-unfolding actOf
+unfolding orderDoes
 returns-7 c = let e = c .before .before .store3 .ensures in rw (c .before .before .before .before .enum-told4 .given .1, e .0, e .1)
 
 returns-8 : tie.Need-returns-8
-unfolding actOf
+unfolding orderDoes
 returns-8 c = rw (c .before .order4 .given .1)
 
 pub act-spec : {M : Type 1} → statement M

@@ -1,0 +1,6 @@
+pub mod Parts
+pub mod Stands
+pub mod Keeps
+pub mod Rules
+pub mod Cases
+pub mod OneResult

@@ -1,0 +1,15 @@
+-- Each public function's promise leaves room for one result only.
+use Prim.Native.Nat.{ℕ}
+use mathlib.Core.Bool.{Bool}
+use mathlib.Core.Path.{_≡_}
+use Rattle.ground.proofs.OneResult.{one}
+use Rattle.framing.specs.declared.Receiver.{Receiver}
+use Rattle.framing.specs.declared.Stepped.{Stepped}
+use Rattle.framing.specs.Receiver.{soundOf}
+use Rattle.framing.specs.Bytes.{stepOf}
+
+pub sound : (receiver : Receiver) (limit : ℕ) (x y : Bool) → x ≡ soundOf limit receiver → y ≡ soundOf limit receiver → x ≡ y
+sound receiver limit x y = one
+
+pub step : (receiver : Receiver) (byte limit : ℕ) (x y : Stepped) → x ≡ stepOf limit receiver byte → y ≡ stepOf limit receiver byte → x ≡ y
+step receiver byte limit x y = one

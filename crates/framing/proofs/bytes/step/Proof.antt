@@ -1,0 +1,17 @@
+-- The tests are those of `stepOf`, in its order.
+use Rattle.ground.proofs.Tests.{tests}
+use Rattle.framing.specs.Bytes.{stepOf}
+use borrow.Author.Needs.{needs}
+use Rattle.framing.proofs.bytes.step.Statement.{statement}
+use Rattle.framing.proofs.bytes.step.Tie as tie
+
+pub step-spec : {M : Type 1} → statement M
+unfolding stepOf
+step-spec =
+    tie.close
+    (tie.spec
+    (λ c. search tests)
+    (λ c κs. search needs)
+    (λ c. search tests)
+    (λ c κs. search needs)
+    (λ c. search tests))

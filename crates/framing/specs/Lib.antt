@@ -1,0 +1,3 @@
+pub mod Receiver
+pub mod Events
+pub mod Bytes

@@ -1,0 +1,45 @@
+// From bytes to finished messages: the receiver by value, and what one byte does to it. It knows no memory and no meaning.
+mod bytes;
+mod soundness;
+
+pub use bytes::step;
+pub use soundness::sound;
+
+// What a socket keeps between its bytes: plain numbers, so that any bits C may lend are a value. All zero is fresh.
+#[repr(C)]
+pub struct Receiver {
+    // How many bytes of the open SysEx are stored.
+    pub stored: u16,
+    // 1 while a SysEx is open.
+    pub inside: u8,
+    // 1 while the open SysEx is marked too long.
+    pub over: u8,
+    // Running status, or 0 for none.
+    pub running: u8,
+    // 1 while a first data byte waits for the second.
+    pub held: u8,
+    // That byte, and 0 where none waits.
+    pub waiting: u8,
+}
+
+// What a byte did, and what it leaves to do for whoever has the receive buffer.
+pub enum Event {
+    Nothing,
+    // The byte belongs at this place of the receive buffer.
+    Collect(u16),
+    // A status byte cut the open SysEx.
+    Cut,
+    // F0 cut the open SysEx and belongs at place 0.
+    CutAndOpen,
+    // F7 ended a SysEx that was marked too long.
+    TooLong,
+    // A SysEx is finished; this many bytes of it are stored.
+    SysEx(u16),
+    // A channel message is finished: status, first and second data byte, the second 0 where there is one only.
+    Channel(u8, u8, u8),
+}
+
+pub struct Stepped {
+    pub receiver: Receiver,
+    pub event: Event,
+}

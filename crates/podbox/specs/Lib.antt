@@ -1,0 +1,4 @@
+pub mod Settings
+pub mod Messages
+pub mod Whole
+pub mod Take

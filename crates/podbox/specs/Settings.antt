@@ -1,0 +1,15 @@
+-- The sizes of this box, and its settings.
+use Prim.Native.Nat.{ℕ}
+use mathlib.Core.Bool.{Bool, _&&_}
+use lib.Dec.{leb}
+use Rattle.sysex.specs.declared.Settings.{Settings}
+
+-- "72 bytes each": every other length derives from the size
+abbrev pub size : ℕ
+size = 72
+
+-- "channel 0 to 15, omni 1 or 0 (yes or no), four revision bytes of at most 0x7F"
+unfoldable pub isValid : Settings → Bool
+isValid s =
+    leb (s .channel) 15 && (leb (s .omni) 1
+    && (leb (s .revision0) 0x7F && (leb (s .revision1) 0x7F && (leb (s .revision2) 0x7F && leb (s .revision3) 0x7F))))

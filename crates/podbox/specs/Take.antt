@@ -1,0 +1,64 @@
+-- One byte on one socket: "A call tests 30, 31, 32 in that order, then takes the byte."
+use Prim.Native.Nat.{ℕ, _+_, _-_}
+use mathlib.Core.Bool.{Bool, cond}
+use mathlib.Core.List.{List}
+use lib.Dec.{ltb}
+use lib.ListN.{length, take, set}
+use Rattle.framing.specs.declared.Receiver.{Receiver}
+use Rattle.framing.specs.declared.Event.{Event}
+use Rattle.framing.specs.declared.Event.the-variants as event
+use Rattle.framing.specs.declared.Stepped.{Stepped}
+use Rattle.framing.specs.Receiver.{soundOf}
+use Rattle.framing.specs.Bytes.{stepOf}
+use Rattle.sysex.specs.declared.Settings.{Settings}
+use Rattle.sysex.specs.declared.Answer.{Answer}
+use Rattle.sysex.specs.declared.Answer.the-variants.{Taken, Cut, Refused}
+use Rattle.sysex.specs.Memory.{memorySize}
+use Rattle.sysex.specs.Forms.{longest}
+use Rattle.sysex.specs.Carrying.{Outcome, written}
+use Rattle.podbox.specs.Settings.{size, isValid}
+use Rattle.podbox.specs.Messages.{SysEx, TooLong, Channel, carry}
+
+-- all that stands at exit of a byte call
+pub record TookByte : Type 0 where
+  pub receiver : Receiver
+  pub answer : Answer
+  pub memory : List ℕ
+  pub receive : List ℕ
+  pub reply : List ℕ
+
+abbrev pub took : Receiver → Answer → List ℕ → List ℕ → List ℕ → TookByte
+took receiver answer memory receive reply = record { receiver = receiver; answer = answer; memory = memory; receive = receive; reply = reply }
+
+-- "At most 5,192 are stored, so 5,193 with F7 is the longest message."
+abbrev pub limit : ℕ
+limit = longest size - 1
+
+-- a message that the byte finished is carried out
+abbrev pub carried : Receiver → Outcome → List ℕ → List ℕ → TookByte
+carried receiver o receive reply = took receiver (o .answer) (o .memory) receive (written (o .bytes) reply)
+
+-- "a collected byte, F0 too, changes one place of its own receive buffer"; a finished SysEx is what stands there
+abbrev pub eventDoes : Settings → Event → Receiver → ℕ → List ℕ → List ℕ → List ℕ → TookByte
+eventDoes settings event.Nothing r byte memory receive reply = took r Taken memory receive reply
+eventDoes settings (event.Collect place) r byte memory receive reply = took r Taken memory (set receive place byte) reply
+eventDoes settings event.Cut r byte memory receive reply = took r Cut memory receive reply
+eventDoes settings event.CutAndOpen r byte memory receive reply = took r Cut memory (set receive 0 byte) reply
+eventDoes settings event.TooLong r byte memory receive reply = carried r (carry settings memory TooLong) receive reply
+eventDoes settings (event.SysEx count) r byte memory receive reply = carried r (carry settings memory (SysEx (take count receive))) receive reply
+eventDoes settings (event.Channel status first second) r byte memory receive reply = carried r (carry settings memory (Channel status first second)) receive reply
+
+-- "In rows 0 to 22 the receiver becomes what the byte rules say."
+unfoldable pub stepDoes : Settings → Stepped → ℕ → List ℕ → List ℕ → List ℕ → TookByte
+stepDoes settings s byte memory receive reply = eventDoes settings (s .event) (s .receiver) byte memory receive reply
+
+unfoldable pub takeOf : Settings → ℕ → Receiver → ℕ → List ℕ → List ℕ → List ℕ → TookByte
+takeOf settings socket r byte memory receive reply =
+    cond (ltb (length memory) (memorySize size)) (took r (Refused 30) memory receive reply)
+    (cond (ltb (length receive) (longest size)) (took r (Refused 30) memory receive reply)
+    (cond (ltb (length reply) (longest size)) (took r (Refused 30) memory receive reply)
+    (cond (ltb 1 socket) (took r (Refused 31) memory receive reply)
+    (cond (soundOf limit r)
+    (cond (isValid settings) (stepDoes settings (stepOf limit r byte) byte memory receive reply)
+    (took r (Refused 32) memory receive reply))
+    (took r (Refused 32) memory receive reply)))))
