@@ -1,5 +1,5 @@
 -- One byte on one socket: "A call tests 30, 31, 32 in that order, then takes the byte."
-use Prim.Native.Nat.{ℕ, _+_, _-_}
+use Prim.Native.Nat.{ℕ, _-_, _≤_, _<_}
 use mathlib.Core.Bool.{Bool, cond}
 use mathlib.Core.List.{List}
 use lib.Dec.{ltb}
@@ -48,9 +48,27 @@ eventDoes settings event.TooLong r byte memory receive reply = carried r (carry 
 eventDoes settings (event.SysEx count) r byte memory receive reply = carried r (carry settings memory (SysEx (take count receive))) receive reply
 eventDoes settings (event.Channel status first second) r byte memory receive reply = carried r (carry settings memory (Channel status first second)) receive reply
 
+-- a place that a byte goes to, and a count of bytes that stand, are in the receive buffer
+abbrev pub Within : Event → Type 0
+Within event.Nothing = Unit {0}
+Within (event.Collect place) = place < limit
+Within event.Cut = Unit {0}
+Within event.CutAndOpen = Unit {0}
+Within event.TooLong = Unit {0}
+Within (event.SysEx count) = count ≤ limit
+Within (event.Channel status first second) = Unit {0}
+
 -- "In rows 0 to 22 the receiver becomes what the byte rules say."
 unfoldable pub stepDoes : Settings → Stepped → ℕ → List ℕ → List ℕ → List ℕ → TookByte
 stepDoes settings s byte memory receive reply = eventDoes settings (s .event) (s .receiver) byte memory receive reply
+
+-- 32, then the byte
+unfoldable pub readyDoes : Settings → Receiver → ℕ → List ℕ → List ℕ → List ℕ → TookByte
+readyDoes settings r byte memory receive reply =
+    cond (soundOf limit r)
+    (cond (isValid settings) (stepDoes settings (stepOf limit r byte) byte memory receive reply)
+    (took r (Refused 32) memory receive reply))
+    (took r (Refused 32) memory receive reply)
 
 unfoldable pub takeOf : Settings → ℕ → Receiver → ℕ → List ℕ → List ℕ → List ℕ → TookByte
 takeOf settings socket r byte memory receive reply =
@@ -58,7 +76,4 @@ takeOf settings socket r byte memory receive reply =
     (cond (ltb (length receive) (longest size)) (took r (Refused 30) memory receive reply)
     (cond (ltb (length reply) (longest size)) (took r (Refused 30) memory receive reply)
     (cond (ltb 1 socket) (took r (Refused 31) memory receive reply)
-    (cond (soundOf limit r)
-    (cond (isValid settings) (stepDoes settings (stepOf limit r byte) byte memory receive reply)
-    (took r (Refused 32) memory receive reply))
-    (took r (Refused 32) memory receive reply)))))
+    (readyDoes settings r byte memory receive reply))))

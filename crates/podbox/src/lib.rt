@@ -1,5 +1,16 @@
 // The box: a whole message from the panel, and one byte on one socket.
+mod channel;
 mod panel;
 mod settings;
+mod socket;
 
+use framing::Receiver;
 pub use panel::whole_message;
+pub use socket::take_byte;
+use sysex::Answer;
+
+// What a byte call gives back: the receiver for the next one, and the answer.
+pub struct Took {
+    pub receiver: Receiver,
+    pub answer: Answer,
+}

@@ -1,0 +1,40 @@
+-- The tests are those of `readyDoes`, in its order.
+use native.Mathlib.Omega.{arith}
+use mathlib.Core.Path.{sym, _∙_}
+use Rattle.podbox.specs.Take.{readyDoes}
+use Rattle.podbox.proofs.Taking.{step-within}
+use borrow.Author.Needs.{needs}
+use Rattle.podbox.proofs.socket.take_ready.Statement.{statement}
+use Rattle.podbox.proofs.socket.take_ready.Tie as tie
+
+act-requires : tie.Need-act-requires
+act-requires c κs = let is-sound = sym (c .before .before .before .before .before .before .before .sound .ensures) ∙ c .before .before .before .before .before .before .if1 .taken in (search needs, rw (c .before .before .before .step .ensures) (step-within _ _ is-sound))
+
+returns : tie.Need-returns
+unfolding readyDoes
+returns c = rw (← c .before .before .before .before .before .before .before .before .before .before .before .before .before .before .sound .ensures, c .before .before .before .before .before .before .before .before .before .before .before .before .before .if1 .taken, ← c .before .before .before .before .before .before .before .before .before .before .before .before .are-valid .ensures, c .before .before .before .before .before .before .before .before .before .before .before .if2 .taken, ← c .before .before .before .before .before .before .before .before .before .before .step .ensures) (c .before .before .before .before .before .before .act .ensures)
+
+returns-2 : tie.Need-returns-2
+unfolding readyDoes
+returns-2 c = rw (← c .before .before .before .before .sound .ensures, c .before .before .before .if1 .taken, ← c .before .before .are-valid .ensures, c .before .if2 .left, c .refused .ensures .0, c .refused .ensures .1)
+
+returns-3 : tie.Need-returns-3
+unfolding readyDoes
+returns-3 c = rw (← c .before .before .sound .ensures, c .before .if1 .left, c .refused2 .ensures .0, c .refused2 .ensures .1)
+
+pub take-ready-spec : {M : Type 1} → statement M
+take-ready-spec =
+    tie.close
+    (tie.spec
+    (λ c κs. search needs)
+    (λ c κs. search needs)
+    (λ c κs. search needs)
+    act-requires
+    (λ c. search needs)
+    (λ c. search needs)
+    (λ c. search needs)
+    returns
+    (λ c κs. search needs)
+    returns-2
+    (λ c κs. search needs)
+    returns-3)
