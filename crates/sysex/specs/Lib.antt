@@ -3,3 +3,4 @@ pub mod Forms
 pub mod Numbers
 pub mod Judging
 pub mod Carrying
+pub mod Formats

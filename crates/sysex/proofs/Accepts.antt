@@ -1,0 +1,54 @@
+-- The judge accepts every dump, every request and every identity request that is ours, as its format says.
+use Prim.Native.Nat.{ℕ, suc, _+_, _*_, _≤_}
+use mathlib.Core.Bool.{Bool, true, false, cond, _&&_}
+use mathlib.Core.List.{List, [], _∷_, _++_}
+use mathlib.Core.Path.{_≡_, refl, _∙_}
+use native.Mathlib.Omega.{arith}
+use lib.Dec.{eqb}
+use lib.ListN.{length}
+use borrow.Author.Tests.{le-leb, eq-eqb}
+use Rattle.ground.specs.Lists.{allAtMost}
+use Rattle.halves.specs.HalfBytes.{split, join, allHalves}
+use Rattle.halves.proofs.Laws.{length-split, split-halves}
+use Rattle.sysex.specs.declared.Settings.{Settings}
+use Rattle.sysex.specs.declared.Order.{Order}
+use Rattle.sysex.specs.declared.Order.the-variants.{Identify, Refused}
+use Rattle.sysex.specs.Forms.{header, bodyLength, isIdentity, isOurs}
+use Rattle.sysex.specs.Judging.{hasProgram, testsOf, firstFailed, orderOf, judgeOf}
+use Rattle.sysex.specs.Formats.{Target, One, Edit, All, There, countFor, requestBody, dumpBody, identityBody, sendOrder, storeOrder, IsDump, IsRequest, IsIdentity}
+
+and-false : (a : Bool) → (a && false) ≡ false
+and-false true = refl
+and-false false = refl
+
+-- nothing that begins F0 00 is an identity request
+no-identity : (rest : List ℕ) → isIdentity (0xF0 ∷ 0x00 ∷ rest) ≡ false
+unfolding isIdentity
+no-identity rest = and-false (eqb (suc (suc (length rest))) 5)
+
+module _ (size : ℕ) (settings : Settings) where
+  pub request-judged : (t : Target) → There t → judgeOf size settings (requestBody t) ≡ sendOrder t
+  unfolding judgeOf testsOf bodyLength hasProgram orderOf
+  request-judged (One p) h = rw (no-identity (0x01 ∷ 0x0C ∷ 0x01 ∷ 0 ∷ 0 ∷ p ∷ []), le-leb p 0x23 h)
+  request-judged Edit h = rw (no-identity (0x01 ∷ 0x0C ∷ 0x01 ∷ 0 ∷ 1 ∷ []))
+  request-judged All h = rw (no-identity (0x01 ∷ 0x0C ∷ 0x01 ∷ 0 ∷ 2 ∷ []))
+
+  module _ (bytes : List ℕ) (low : allAtMost 0xFF bytes ≡ true) where
+    pub dump-judged : (t : Target) → There t → length bytes ≡ countFor size t → judgeOf size settings (dumpBody t bytes) ≡ storeOrder t
+    unfolding judgeOf testsOf bodyLength hasProgram orderOf
+    dump-judged (One p) h e =
+        let l = length-split bytes in
+        rw (no-identity (0x01 ∷ 0x0C ∷ 0x01 ∷ 1 ∷ 0 ∷ p ∷ 0 ∷ split bytes), le-leb 7 (length (dumpBody (One p) bytes)) (omega arith),
+        eq-eqb (length (dumpBody (One p) bytes)) (9 + 2 * size) (omega arith), le-leb p 0x23 h, split-halves bytes low)
+    dump-judged Edit h e =
+        let l = length-split bytes in
+        rw (no-identity (0x01 ∷ 0x0C ∷ 0x01 ∷ 1 ∷ 1 ∷ 0 ∷ split bytes), le-leb 7 (length (dumpBody Edit bytes)) (omega arith),
+        eq-eqb (length (dumpBody Edit bytes)) (8 + 2 * size) (omega arith), split-halves bytes low)
+    dump-judged All h e =
+        let l = length-split bytes in
+        rw (no-identity (0x01 ∷ 0x0C ∷ 0x01 ∷ 1 ∷ 2 ∷ 0 ∷ split bytes), le-leb 7 (length (dumpBody All bytes)) (omega arith),
+        eq-eqb (length (dumpBody All bytes)) (8 + 2 * (36 * size)) (omega arith), split-halves bytes low)
+
+  pub identity-judged : (cc : ℕ) → cc ≤ 0x7F → isOurs settings cc ≡ true → judgeOf size settings (identityBody cc) ≡ Identify cc
+  unfolding judgeOf isIdentity
+  identity-judged cc h o = rw (le-leb cc 0x7F h, o)

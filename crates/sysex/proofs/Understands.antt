@@ -1,0 +1,187 @@
+-- What the judge answers, with what it says of the body: an order is given for a body of its format, and for no other.
+use Prim.Native.Nat.{ℕ, suc, _+_, _*_, _≤_, _<_}
+use mathlib.Core.Bool.{Bool, true, false, cond, _&&_, false≢true}
+use mathlib.Core.List.{List, [], _∷_, _++_}
+use mathlib.Core.Path.{_≡_, refl, sym, ap, _∙_}
+use native.Mathlib.Omega.{arith}
+use lib.Dec.{eqb, leb}
+use lib.ListN.{length, getD, drop, length-drop, drop-of-length-le}
+use borrow.Author.Tests.{eqb-true, eqb-false, leb-true}
+use Rattle.ground.specs.Lists.{allAtMost}
+use Rattle.ground.proofs.Lists.{drop-one, drop-two}
+use Rattle.ground.proofs.Tests.{both, by}
+use Rattle.halves.specs.HalfBytes.{split, join, allHalves}
+use Rattle.halves.proofs.Laws.{length-join, join-bytes, split-join}
+use Rattle.sysex.specs.declared.Settings.{Settings}
+use Rattle.sysex.specs.declared.Order.{Order}
+use Rattle.sysex.specs.declared.Order.the-variants.{Identify, Refused}
+use Rattle.sysex.specs.Forms.{header, begins, opcodeOf, typeOf, programOf, request, program, edit, all, versionPlace, dataPlace, dataCount, bodyLength, isIdentity, isOurs}
+use Rattle.sysex.specs.Judging.{Test, firstFailed, isKnown, isLong, hasProgram, dataTests, testsOf, orderOf, judgeOf}
+use Rattle.sysex.specs.Formats.{Target, One, Edit, All, There, typeFor, ppFor, countFor, requestBody, dumpBody, identityBody, sendOrder, storeOrder, IsDump, IsRequest, IsIdentity}
+use Rattle.sysex.proofs.Judged.{Right, right}
+
+-- a list that begins so is that beginning, and the rest
+begun : (start body : List ℕ) → begins start body ≡ true → body ≡ start ++ drop (length start) body
+begun [] body t = refl
+begun (x ∷ start) [] t = absurd (false≢true t)
+begun (x ∷ start) (b ∷ body) t =
+    let p = both (eqb b x) (begins start body) t in
+    let same = eqb-true b x (p .0) in
+    let rest = begun start body (p .1) in
+    λ i. same i ∷ rest i
+
+module _ (size : ℕ) (body : List ℕ) (r : Right size body) where
+  -- header, opcode, type, and what stands behind them
+  opened : body ≡ header ++ (opcodeOf body ∷ typeOf body ∷ drop 7 body)
+  opened = let long = r .long in begun header body (r .ours) ∙ ap (λ (rest : List ℕ). header ++ rest) (drop-two body 5 (omega arith))
+
+  module _ (d : eqb (opcodeOf body) request ≡ true) where
+    is-request : opcodeOf body ≡ 0
+    is-request = eqb-true _ _ d
+
+    whole-request : length body ≡ versionPlace (typeOf body)
+    unfolding bodyLength
+    whole-request = rw d at (r .whole)
+
+    -- nothing behind the type, or the program alone
+    request-plain : (t : Target) → typeOf body ≡ typeFor t → versionPlace (typeFor t) ≡ 7 → requestBody t ≡ header ++ (0 ∷ typeFor t ∷ []) → There t → IsRequest t body
+    request-plain t e v f h =
+        let whole = rw e at whole-request in
+        let nothing : drop 7 body ≡ [] = drop-of-length-le body {i = 7} (omega arith) in
+        record { there = h; form = opened ∙ (rw (is-request, e, nothing, f)) }
+
+    request-one : eqb (typeOf body) program ≡ true → IsRequest (One (programOf body)) body
+    unfolding hasProgram
+    request-one t =
+        let e = eqb-true (typeOf body) program t in
+        let whole = rw e at whole-request in
+        let nothing : drop 8 body ≡ [] = drop-of-length-le body {i = 8} (omega arith) in
+        record {
+          there = leb-true _ _ (rw t at (r .numbered));
+          form = opened ∙ (rw (is-request, e, drop-one body 7 (omega arith), nothing))
+        }
+
+  module _ (d : eqb (opcodeOf body) request ≡ false) where
+    is-dump : opcodeOf body ≡ 1
+    is-dump = let small = r .opcode in let some = eqb-false (opcodeOf body) request d in omega arith
+
+    whole-dump : length body ≡ dataPlace (typeOf body) + dataCount size (typeOf body)
+    unfolding bodyLength
+    whole-dump = rw d at (r .whole)
+
+    -- the data are the halves of the bytes that they join to
+    data-halves : (t : Target) → typeOf body ≡ typeFor t → dataCount size (typeFor t) ≡ 2 * countFor size t
+        → (drop (dataPlace (typeFor t)) body ≡ split (join (drop (dataPlace (typeFor t)) body))) × (length (join (drop (dataPlace (typeFor t)) body)) ≡ countFor size t)
+        × (allAtMost 0xFF (join (drop (dataPlace (typeFor t)) body)) ≡ true)
+    data-halves t e k =
+        let place = dataPlace (typeFor t) in
+        let halves = rw e at (r .halves d) in
+        let whole = rw e at whole-dump in
+        let long : length (drop place body) ≡ 2 * countFor size t = omega (arith, length-drop place body) in
+        (sym (split-join (drop place body) (countFor size t) long halves), omega (arith, length-join (drop place body)), join-bytes (drop place body) halves)
+
+    dump-plain : (t : Target) → typeOf body ≡ typeFor t → versionPlace (typeFor t) ≡ 7 → ppFor t ≡ [] → dataCount size (typeFor t) ≡ 2 * countFor size t → There t
+        → IsDump size t (join (drop 8 body)) body
+    dump-plain t e v p k h =
+        let x = rw v at (data-halves t e k) in
+        let version = rw (e, v) at (r .version d) in
+        let whole = rw (e, v) at whole-dump in
+        record {
+          there = h;
+          count = x .1;
+          whole-bytes = x .2;
+          form = opened ∙ (rw (is-dump, e, p, drop-one body 7 (omega arith), version, ← x .0))
+        }
+
+    dump-one : eqb (typeOf body) program ≡ true → IsDump size (One (programOf body)) (join (drop 9 body)) body
+    unfolding hasProgram
+    dump-one t =
+        let e = eqb-true (typeOf body) program t in
+        let x = data-halves (One (programOf body)) e refl in
+        let version = rw e at (r .version d) in
+        let whole = rw e at whole-dump in
+        record {
+          there = leb-true _ _ (rw t at (r .numbered));
+          count = x .1;
+          whole-bytes = x .2;
+          form = opened ∙ (rw (is-dump, e, drop-two body 7 (omega arith), version, ← x .0))
+        }
+
+-- what each order means
+pub data Meant (size : ℕ) (settings : Settings) (body : List ℕ) : Order → Type 0 where
+  identity : (cc : ℕ) → IsIdentity settings cc body → Meant size settings body (Identify cc)
+  asked : (t : Target) → IsRequest t body → Meant size settings body (sendOrder t)
+  dumped : (t : Target) → IsDump size t (join (drop (dataPlace (typeFor t)) body)) body → Meant size settings body (storeOrder t)
+  refused : (number : ℕ) → 11 ≤ number → number ≤ 22 → Meant size settings body (Refused number)
+
+module _ (size : ℕ) (settings : Settings) (body : List ℕ) where
+  abbrev Means : Order → Type 0
+  Means o = Meant size settings body o
+
+  order-meant : Right size body → Means (orderOf (opcodeOf body) (typeOf body) (programOf body))
+  unfolding orderOf
+  order-meant r =
+      let all-left : eqb (typeOf body) program ≡ false → eqb (typeOf body) edit ≡ false → typeOf body ≡ 2 = λ t u.
+      let not-program = eqb-false (typeOf body) program t in let not-edit = eqb-false (typeOf body) edit u in let small = r .type in omega arith in
+      by Means (eqb (opcodeOf body) request) _ _
+      (λ d. by Means (eqb (typeOf body) program) _ _
+      (λ t. asked (One (programOf body)) (request-one size body r d t))
+      (λ t. by Means (eqb (typeOf body) edit) _ _
+      (λ u. asked Edit (request-plain size body r d Edit (eqb-true _ _ u) refl refl tt))
+      (λ u. asked All (request-plain size body r d All (all-left t u) refl refl tt))))
+      (λ d. by Means (eqb (typeOf body) program) _ _
+      (λ t. dumped (One (programOf body)) (dump-one size body r d t))
+      (λ t. by Means (eqb (typeOf body) edit) _ _
+      (λ u. dumped Edit (dump-plain size body r d Edit (eqb-true _ _ u) refl refl refl tt))
+      (λ u. dumped All (dump-plain size body r d All (all-left t u) refl refl refl tt))))
+
+  -- a refusal's number, where a test failed
+  failed-number : (eqb (firstFailed (testsOf size body)) 0 ≡ false) → (11 ≤ firstFailed (testsOf size body)) × (firstFailed (testsOf size body) ≤ 22)
+  unfolding testsOf
+  failed-number =
+      let P : ℕ → Type 0 = λ n. eqb n 0 ≡ false → (11 ≤ n) × (n ≤ 22) in
+      let told : (n : ℕ) → 11 ≤ n → n ≤ 22 → P n = λ n lo hi _. (lo, hi) in
+      by P (begins header body) _ _
+      (λ _. by P (isKnown body) _ _
+      (λ _. by P (isLong size body) _ _
+      (λ _. by P (hasProgram (typeOf body) (programOf body)) _ _
+      (λ _. by (λ (ts : List Test). P (firstFailed ts)) (eqb (opcodeOf body) request) [] (dataTests (typeOf body) body)
+      (λ _ e. absurd (false≢true (sym e)))
+      (λ _. by P (eqb (getD body (versionPlace (typeOf body)) 0) 0) _ _
+      (λ _. by P (allHalves (drop (dataPlace (typeOf body)) body)) _ _ (λ _ e. absurd (false≢true (sym e))) (λ _. told 16 (omega arith) (omega arith)))
+      (λ _. told 15 (omega arith) (omega arith))))
+      (λ _. told 14 (omega arith) (omega arith)))
+      (λ _. told 13 (omega arith) (omega arith)))
+      (λ _. told 12 (omega arith) (omega arith)))
+      (λ _. told 11 (omega arith) (omega arith))
+
+  identity-meant : isIdentity body ≡ true → isOurs settings (getD body 2 0) ≡ true → IsIdentity settings (getD body 2 0) body
+  unfolding isIdentity
+  identity-meant t o =
+      let fifth = eqb (getD body 4 0) 0x01 in
+      let fourth = eqb (getD body 3 0) 0x06 && fifth in
+      let third = leb (getD body 2 0) 0x7F && fourth in
+      let second = eqb (getD body 1 0) 0x7E && third in
+      let p = both (eqb (length body) 5) (eqb (getD body 0 0) 0xF0 && second) t in
+      let p₀ = both (eqb (getD body 0 0) 0xF0) second (p .1) in
+      let p₁ = both (eqb (getD body 1 0) 0x7E) third (p₀ .1) in
+      let p₂ = both (leb (getD body 2 0) 0x7F) fourth (p₁ .1) in
+      let p₃ = both (eqb (getD body 3 0) 0x06) fifth (p₂ .1) in
+      let long = eqb-true (length body) 5 (p .0) in
+      let nothing : drop 5 body ≡ [] = drop-of-length-le body {i = 5} (omega arith) in
+      record {
+        low = leb-true _ _ (p₂ .0);
+        ours = o;
+        form = drop-two body 0 (omega arith)
+        ∙ (rw (eqb-true (getD body 0 0) 0xF0 (p₀ .0), eqb-true (getD body 1 0) 0x7E (p₁ .0), drop-two body 2 (omega arith), eqb-true (getD body 3 0) 0x06 (p₃ .0),
+        drop-one body 4 (omega arith), eqb-true (getD body 4 0) 0x01 (p₃ .1), nothing))
+      }
+
+  pub meant : Means (judgeOf size settings body)
+  unfolding judgeOf
+  meant =
+      by Means (isIdentity body) _ _
+      (λ i. by Means (isOurs settings (getD body 2 0)) _ _ (λ o. identity (getD body 2 0) (identity-meant i o)) (λ _. refused 22 (omega arith) (omega arith)))
+      (λ _. by Means (eqb (firstFailed (testsOf size body)) 0) _ _
+      (λ e. order-meant (right size body (eqb-true _ _ e)))
+      (λ e. let n = failed-number e in refused (firstFailed (testsOf size body)) (n .0) (n .1)))
