@@ -1,3 +1,5 @@
 pub mod Frames
 pub mod Taking
 pub mod WholeMessages
+pub mod Exactly
+pub mod Refusals

@@ -17,7 +17,7 @@ use Rattle.sysex.specs.declared.Order.{Order}
 use Rattle.sysex.specs.declared.Answer.{Answer}
 use Rattle.sysex.specs.declared.Answer.the-variants.{Stored, Sent, Refused}
 use Rattle.sysex.specs.Memory.{memorySize, partOf, putPart}
-use Rattle.sysex.specs.Forms.{longest, dataPlace, dumpOf, identityOf, isOurs}
+use Rattle.sysex.specs.Forms.{longest, dataPlace, identityOf, isOurs}
 use Rattle.sysex.specs.Judging.{judgeOf}
 use Rattle.sysex.specs.Carrying.{Outcome, Left, left, leaves, written, orderDoes}
 use Rattle.sysex.specs.Formats.{Target, One, Edit, All, There, typeFor, ppFor, placeFor, countFor, requestBody, dumpBody, identityBody, sendOrder, storeOrder, IsDump, IsRequest, IsIdentity}
@@ -27,29 +27,6 @@ use Rattle.podbox.specs.Settings.{size, isValid}
 use Rattle.podbox.specs.Messages.{carry}
 use Rattle.podbox.specs.Whole.{isFramed, bodyOf, messageDoes, wholeOf}
 use Rattle.podbox.proofs.Frames.{frame, frame-body, frame-framed}
-
--- what an order does, by what it names
-store-does : (settings : Settings) (t : Target) (body memory : List ℕ) →
-    orderDoes size settings (storeOrder t) body memory
-    ≡ record { answer = Stored; memory = putPart (placeFor size t) (countFor size t) (join (drop (dataPlace (typeFor t)) body)) memory; bytes = [] }
-unfolding orderDoes
-store-does settings (One p) body memory = refl
-store-does settings Edit body memory = refl
-store-does settings All body memory = refl
-
-send-does : (settings : Settings) (t : Target) (body memory : List ℕ) →
-    (let d = dumpOf (typeFor t) (ppFor t) (partOf (placeFor size t) (countFor size t) memory) in
-    orderDoes size settings (sendOrder t) body memory ≡ record { answer = Sent (length d); memory = memory; bytes = d })
-unfolding orderDoes
-send-does settings (One p) body memory = refl
-send-does settings Edit body memory = refl
-send-does settings All body memory = refl
-
--- a dump's data, read off its body
-dump-data : (t : Target) (bytes : List ℕ) → join (drop (dataPlace (typeFor t)) (dumpBody t bytes)) ≡ bytes
-dump-data (One p) bytes = join-split bytes
-dump-data Edit bytes = join-split bytes
-dump-data All bytes = join-split bytes
 
 -- The whole messages: a body, and F7.
 abbrev pub dumpMessage : Target → List ℕ → List ℕ
@@ -61,11 +38,28 @@ requestMessage t = requestBody t ++ (0xF7 ∷ [])
 abbrev pub identityMessage : ℕ → List ℕ
 identityMessage cc = identityBody cc ++ (0xF7 ∷ [])
 
--- a dump that is sent is a dump's message
-pub sent-dump : (t : Target) (bytes : List ℕ) → dumpOf (typeFor t) (ppFor t) bytes ≡ dumpMessage t bytes
-sent-dump (One p) bytes = refl
-sent-dump Edit bytes = refl
-sent-dump All bytes = refl
+-- what an order does, by what it names
+pub store-does : (settings : Settings) (t : Target) (body memory : List ℕ) →
+    orderDoes size settings (storeOrder t) body memory
+    ≡ record { answer = Stored; memory = putPart (placeFor size t) (countFor size t) (join (drop (dataPlace (typeFor t)) body)) memory; bytes = [] }
+unfolding orderDoes
+store-does settings (One p) body memory = refl
+store-does settings Edit body memory = refl
+store-does settings All body memory = refl
+
+pub send-does : (settings : Settings) (t : Target) (body memory : List ℕ) →
+    (let d = dumpMessage t (partOf (placeFor size t) (countFor size t) memory) in
+    orderDoes size settings (sendOrder t) body memory ≡ record { answer = Sent (length d); memory = memory; bytes = d })
+unfolding orderDoes
+send-does settings (One p) body memory = refl
+send-does settings Edit body memory = refl
+send-does settings All body memory = refl
+
+-- a dump's data, read off its body
+dump-data : (t : Target) (bytes : List ℕ) → join (drop (dataPlace (typeFor t)) (dumpBody t bytes)) ≡ bytes
+dump-data (One p) bytes = join-split bytes
+dump-data Edit bytes = join-split bytes
+dump-data All bytes = join-split bytes
 
 -- the bytes between F0 and F7 are data bytes, and few enough
 abbrev dumpRest : Target → List ℕ → List ℕ
@@ -121,11 +115,8 @@ module _ (settings : Settings) (memory reply : List ℕ) (m : memorySize size �
       → (let d = dumpMessage t (partOf (placeFor size t) (countFor size t) memory) in
       wholeOf settings (requestMessage t) memory reply ≡ left (Sent (length d)) memory (written d reply))
   request-answered t h =
-      let part = partOf (placeFor size t) (countFor size t) memory in
-      let d = dumpOf (typeFor t) (ppFor t) part in
-      let answered : wholeOf settings (requestMessage t) memory reply ≡ left (Sent (length d)) memory (written d reply) =
-      framed-does (requestRest t) (request-low t h) (request-short t) ∙ (rw (request-judged size settings t h, send-does settings t (requestBody t) memory)) in
-      answered ∙ ap (λ (x : List ℕ). left (Sent (length x)) memory (written x reply)) (sent-dump t part)
+      framed-does (requestRest t) (request-low t h) (request-short t)
+      ∙ (rw (request-judged size settings t h, send-does settings t (requestBody t) memory))
 
   pub identity-answered : (cc : ℕ) → cc ≤ 0x7F → isOurs settings cc ≡ true
       → wholeOf settings (identityMessage cc) memory reply ≡ left (Sent 17) memory (written (identityOf settings cc) reply)
