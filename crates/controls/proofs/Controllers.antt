@@ -32,20 +32,25 @@ pub record Open (controller : ℕ) (edit : List ℕ) : Type 0 where
   pub listed : 1 ≤ rowOf controller .width
   pub chosen : selected (rowOf controller .effect) (getD edit 46 0) ≡ true
 
+pub store-length : (r : Row) (value : ℕ) (edit : List ℕ) → length (store r value edit) ≡ length edit
+unfolding store
+store-length r value edit = length-put (r .width) (r .place) _ edit
+
 module _ (controller value : ℕ) (edit : List ℕ) where
-  -- what holds of every refusal, and of the stored number where the move is allowed, holds of applying
-  apply-cases : (P : Left → Type 0) → ((number : ℕ) → P (left (change.Refused number) edit))
+  -- what holds of 30 for a short buffer, of 17, 18 and 19, and of the stored number where the move is allowed, holds of applying
+  pub apply-cases : (P : Left → Type 0) → (length edit < programSize → P (left (change.Refused 30) edit))
+      → ((number : ℕ) → 17 ≤ number → number ≤ 19 → P (left (change.Refused number) edit))
       → (Open controller edit → value ≤ rowOf controller .highest → P (left change.Applied (store (rowOf controller) value edit)))
       → P (applyOf controller value edit)
   unfolding applyOf
-  apply-cases P refused applied =
+  apply-cases P short refused applied =
       let r = rowOf controller in
-      by P (ltb (length edit) programSize) _ _ (λ _. refused 30)
-      (λ l. by P (eqb (r .width) 0) _ _ (λ _. refused 17)
-      (λ w. by P (ltb (r .highest) value) _ _ (λ _. refused 18)
+      by P (ltb (length edit) programSize) _ _ (λ l. short (ltb-true _ _ l))
+      (λ l. by P (eqb (r .width) 0) _ _ (λ _. refused 17 (omega arith) (omega arith))
+      (λ w. by P (ltb (r .highest) value) _ _ (λ _. refused 18 (omega arith) (omega arith))
       (λ h. by P (selected (r .effect) (getD edit 46 0)) _ _
       (λ s. let some = eqb-false (r .width) 0 w in applied (record { long = ltb-false _ _ l; listed = omega arith; chosen = s }) (ltb-false _ _ h))
-      (λ _. refused 19))))
+      (λ _. refused 19 (omega arith) (omega arith)))))
 
   -- Applied exactly when row, range and effect allow.
   pub applied : Open controller edit → value ≤ rowOf controller .highest
@@ -59,7 +64,8 @@ module _ (controller value : ℕ) (edit : List ℕ) where
   pub applied-only : applyOf controller value edit .answer ≡ change.Applied → Open controller edit × (value ≤ rowOf controller .highest)
   applied-only =
       apply-cases (λ x. x .answer ≡ change.Applied → Open controller edit × (value ≤ rowOf controller .highest))
-      (λ number e. let z : _≡_ {A = ℕ} 0 1 = cc in absurd (omega arith))
+      (λ _ e. let z : _≡_ {A = ℕ} 0 1 = cc in absurd (omega arith))
+      (λ _ _ _ e. let z : _≡_ {A = ℕ} 0 1 = cc in absurd (omega arith))
       (λ o h e. (o, h))
 
   pub not-selected : programSize ≤ length edit → 1 ≤ rowOf controller .width → value ≤ rowOf controller .highest
@@ -74,6 +80,7 @@ module _ (controller value : ℕ) (edit : List ℕ) where
   refused-nothing number =
       apply-cases (λ x. x .answer ≡ change.Refused number → x .edit ≡ edit)
       (λ _ _. refl)
+      (λ _ _ _ _. refl)
       (λ _ _ e. let z : _≡_ {A = ℕ} 0 1 = cc in absurd (omega arith))
 
   -- Only its row's bytes change.
@@ -83,12 +90,11 @@ module _ (controller value : ℕ) (edit : List ℕ) where
   only-its-bytes k o =
       apply-cases (λ x. getD (x .edit) k 0 ≡ getD edit k 0)
       (λ _. refl)
+      (λ _ _ _. refl)
       (λ _ _. put-outside (rowOf controller .width) (rowOf controller .place) _ edit k o)
 
   pub length-kept : length (applyOf controller value edit .edit) ≡ length edit
-  unfolding store
-  length-kept =
-      apply-cases (λ x. length (x .edit) ≡ length edit) (λ _. refl) (λ _ _. length-put (rowOf controller .width) (rowOf controller .place) _ edit)
+  length-kept = apply-cases (λ x. length (x .edit) ≡ length edit) (λ _. refl) (λ _ _ _. refl) (λ _ _. store-length (rowOf controller) value edit)
 
 -- The selecting byte is written by 19 alone.
 pub only-19-selects : (controller value : ℕ) (edit : List ℕ) → (controller ≡ 19 → ⊥) → getD (applyOf controller value edit .edit) 46 0 ≡ getD edit 46 0

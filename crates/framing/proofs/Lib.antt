@@ -4,3 +4,4 @@ pub mod Keeps
 pub mod Rules
 pub mod Cases
 pub mod OneResult
+pub mod Places

@@ -1,0 +1,47 @@
+-- Which byte goes to which place of the receive buffer.
+use Prim.Native.Nat.{ℕ, _<_}
+use mathlib.Core.Bool.{Bool, cond}
+use mathlib.Core.Logic.{_⊎_, inl, inr}
+use mathlib.Core.Path.{_≡_, refl}
+use lib.Dec.{ltb, eqb}
+use borrow.Author.Tests.{ltb-true, eqb-true}
+use Rattle.ground.proofs.Tests.{by}
+use Rattle.framing.specs.declared.Receiver.{Receiver}
+use Rattle.framing.specs.declared.Event.{Event}
+use Rattle.framing.specs.declared.Event.the-variants.{Nothing, Collect, Cut, CutAndOpen, TooLong, SysEx, Channel}
+use Rattle.framing.specs.declared.Stepped.{Stepped}
+use Rattle.framing.specs.Receiver.{isOpen, isLong, waits, isNone, takesOne}
+use Rattle.framing.specs.Bytes.{isRealTime, isData, statusOf, stepOf}
+
+-- a data byte goes behind what is stored, F0 to the start, and no other byte anywhere
+abbrev pub Belongs : Receiver → ℕ → Event → Type 0
+Belongs r byte Nothing = Unit {0}
+Belongs r byte (Collect place) = ((place ≡ r .stored) × (byte < 0x80)) ⊎ ((place ≡ 0) × (byte ≡ 0xF0))
+Belongs r byte Cut = Unit {0}
+Belongs r byte CutAndOpen = byte ≡ 0xF0
+Belongs r byte TooLong = Unit {0}
+Belongs r byte (SysEx count) = Unit {0}
+Belongs r byte (Channel status first second) = Unit {0}
+
+module _ (limit : ℕ) (r : Receiver) (byte : ℕ) where
+  abbrev Right : Stepped → Type 0
+  Right s = Belongs r byte (s .event)
+
+  status : (event opening : Event) → Belongs r byte event → (byte ≡ 0xF0 → Belongs r byte opening) → Right (statusOf byte event opening)
+  status event opening e o =
+      by Right (ltb byte 0xF0) _ _ (λ _. e) (λ _. by Right (eqb byte 0xF0) _ _ (λ f. o (eqb-true byte 0xF0 f)) (λ _. e))
+
+  pub belongs : Right (stepOf limit r byte)
+  unfolding stepOf
+  belongs =
+      by Right (isRealTime byte) _ _ (λ _. tt)
+      (λ _. by Right (isOpen r) _ _
+      (λ _. by Right (isData byte) _ _
+      (λ d. by Right (ltb (r .stored) limit) _ _ (λ _. inl (refl, ltb-true byte 0x80 d)) (λ _. tt))
+      (λ _. by Right (eqb byte 0xF7) _ _
+      (λ _. by Right (isLong r) _ _ (λ _. tt) (λ _. tt))
+      (λ _. status Cut CutAndOpen tt (λ e. e))))
+      (λ _. by Right (isData byte) _ _
+      (λ _. by Right (isNone r) _ _ (λ _. tt)
+      (λ _. by Right (takesOne (r .running)) _ _ (λ _. tt) (λ _. by Right (waits r) _ _ (λ _. tt) (λ _. tt))))
+      (λ _. status Nothing (Collect 0) tt (λ e. inr (refl, e)))))
