@@ -1,5 +1,6 @@
-"""Check controllers.py against the bench cases of document 01."""
+"""Check controllers.py and box.py against the bench cases of document 01."""
 
+from box import Box
 from controllers import TABLE, apply, back, join, read, scale, split, store
 
 LONG = (26, 27, 28)  # "30 and 62, bytes 26 to 28"
@@ -127,6 +128,64 @@ def check_back():
     expect('back of 71 bytes', back(0, bytearray(71)), ('refused', 30))
 
 
+def send(box, data, socket=0):
+    """Take bytes on a socket; list (place, number, reply length) but 0."""
+    answers = ((place, *box.take(socket, byte))
+               for place, byte in enumerate(bytes.fromhex(data)))
+    return [answer for answer in answers if answer[1]]
+
+
+def check_calls():
+    """Controllers as bytes on a socket of a fresh box."""
+    cases = (
+        # "12 at 27 applied, at 28 is 18."
+        ('B0 0C 1B', 3, {8: 27}),
+        ('B0 0C 1C', 18, {}),
+        # "55 with byte 46 at 1 is 19.": 19 at 1 before it
+        ('B0 13 01 37 7F', 19, {46: 1}),
+        # byte 46 at 2 selects it
+        ('B0 13 02 37 7F', 3, {46: 2, 48: 1}),
+    )
+    for data, number, changes in cases:
+        for socket in (0, 1):
+            box = Box()
+            place = len(bytes.fromhex(data)) - 1
+            expect(data, send(box, data, socket)[-1], (place, number, 0))
+            expect(data, box.memory,
+                   bytes(36 * 72) + buffer_with(changes))
+
+
+def check_forms():
+    """Programs and lengths, on a socket and as whole messages."""
+    halves = '0A 07' * 72
+    kept = bytes(37 * 72)
+    stored = bytes(35 * 72) + b'\xA7' * 72 + bytes(72)
+    cases = (
+        # "Program 0x23 taken, 0x24 is 14."
+        ('F0 00 01 0C 01 00 00 23 F7', 2, 154, kept),
+        ('F0 00 01 0C 01 00 00 24 F7', 14, 0, kept),
+        (f'F0 00 01 0C 01 01 00 23 00 {halves} F7', 1, 0, stored),
+        (f'F0 00 01 0C 01 01 00 24 00 {halves} F7', 14, 0, kept),
+        # "A program dump of 153 bytes is 13."
+        (f'F0 00 01 0C 01 01 00 23 00 {halves[2:]} F7', 13, 0, kept),
+    )
+    for data, number, length, memory in cases:
+        message = bytes.fromhex(data)
+        box = Box()
+        expect(f'{data} whole', box.whole(message), (number, length))
+        expect(f'{data} whole', box.memory, memory)
+        box = Box()
+        expect(data, send(box, data), [(len(message) - 1, number, length)])
+        expect(data, box.memory, memory)
+
+
+def check_listing():
+    """The four numbered lines of the listing."""
+    expect('listing',
+           send(Box(), 'B0 0D 7F F8 0E 40 F0 7E 7F 06 01 F7 C0 05'),
+           [(2, 3, 0), (5, 3, 0), (11, 2, 17), (13, 21, 0)])
+
+
 def check():
     """Raise on the first wrong case."""
     expect('"These 49 controllers are all"', len(TABLE), 49)
@@ -135,6 +194,9 @@ def check():
     check_applying()
     check_parts()
     check_back()
+    check_calls()
+    check_forms()
+    check_listing()
 
 
 check()

@@ -11,6 +11,20 @@ use Rattle.controls.specs.Answers.{refusalOf, valueOf}
 use Rattle.controls.specs.Scaling.{scaleOf}
 use Rattle.controls.specs.Applying.{store, applyOf}
 use Rattle.controls.specs.Showing.{shownOf, backOf}
+use Rattle.framing.specs.declared.Receiver.{Receiver}
+use Rattle.framing.specs.Receiver.{fresh, soundOf, isWritten, countRight, runningRight, waitingRight, longIsFull, takesOne, takesTwo}
+use Rattle.framing.specs.Bytes.{stepOf}
+use Rattle.sysex.specs.declared.Settings.{Settings}
+use Rattle.sysex.specs.Numbers as box
+use Rattle.sysex.specs.Forms.{bodyLength, isIdentity}
+use Rattle.sysex.specs.Judging.{hasProgram, testsOf, orderOf, judgeOf}
+use Rattle.sysex.specs.Carrying.{orderDoes}
+use Rattle.sysex.specs.Formats.{One}
+use Rattle.podbox.specs.Settings.{isValid}
+use Rattle.podbox.specs.Messages.{isHeard, isController, carry}
+use Rattle.podbox.specs.Whole.{isFramed, wholeOf}
+use Rattle.podbox.specs.Take.{stepDoes, readyDoes, takeOf}
+use Rattle.podbox.proofs.WholeMessages.{dumpMessage, requestMessage}
 
 -- what the definitions give, and what the paper says
 pub record Case : Type 0 where
@@ -44,6 +58,25 @@ after controller value edit = applyOf controller value edit .edit
 
 bytes : ℕ → ℕ → List ℕ → List ℕ
 bytes place count edit = take count (drop place edit)
+
+-- a fresh box, set as the listing program's: the number of each byte of a run on socket 0, and of a message that is handed over whole
+settings : Settings
+settings = record { channel = 0; omni = 0; revision0 = 0x30; revision1 = 0x31; revision2 = 0x30; revision3 = 0x30 }
+
+zeros : ℕ → List ℕ
+zeros count = replicate count 0
+
+run : List ℕ → Receiver → List ℕ → List ℕ → List ℕ → List ℕ
+run [] receiver memory receive reply = []
+run (byte ∷ bytes) receiver memory receive reply =
+    let l = takeOf settings 0 receiver byte memory receive reply in
+    box.numberOf (l .answer) ∷ run bytes (l .receiver) (l .memory) (l .receive) (l .reply)
+
+called : List ℕ → List ℕ
+called bytes = run bytes fresh (zeros 2664) (zeros 5193) (zeros 5193)
+
+handed : List ℕ → List ℕ
+handed message = box.numberOf (wholeOf settings message (zeros 2664) (zeros 5193) .answer) ∷ []
 
 pub marked : List Case
 marked =
@@ -83,8 +116,15 @@ marked =
     -- "Back: 52 from 1 is 40, from 2 shows 1."
     shown 52 (with 50 1) is (40 ∷ 0 ∷ []) ∷
     shown 52 (with 50 2) is (0 ∷ 1 ∷ []) ∷
+    -- "12 at 27 applied, at 28 is 18. Program 0x23 taken, 0x24 is 14."
+    called (0xB0 ∷ 12 ∷ 27 ∷ []) is (0 ∷ 0 ∷ 3 ∷ []) ∷
+    called (0xB0 ∷ 12 ∷ 28 ∷ []) is (0 ∷ 0 ∷ 18 ∷ []) ∷
+    handed (requestMessage (One 0x23)) is (2 ∷ []) ∷
+    handed (requestMessage (One 0x24)) is (14 ∷ []) ∷
+    handed (dumpMessage (One 0x23) (zeros 72)) is (1 ∷ []) ∷
+    handed (dumpMessage (One 0x24) (zeros 72)) is (14 ∷ []) ∷
     []
 
 pub as-the-paper-says : map (λ (c : Case). c .gives) marked ≡ map (λ (c : Case). c .paper) marked
-unfolding marked _is_ travels reads scaled shown with after bytes joinInto scaleOf applyOf store backOf shownOf numberBy mOf nextBy rowOf rows effectOf selections selected
+unfolding marked _is_ travels reads scaled shown with after bytes joinInto scaleOf applyOf store backOf shownOf numberBy mOf nextBy rowOf rows effectOf selections selected settings zeros run called handed soundOf isWritten countRight runningRight waitingRight longIsFull takesOne takesTwo stepOf bodyLength isIdentity hasProgram testsOf orderOf judgeOf orderDoes isValid isHeard isController carry isFramed wholeOf stepDoes readyDoes takeOf
 as-the-paper-says = refl

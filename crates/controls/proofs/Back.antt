@@ -1,10 +1,10 @@
 -- Showing back shows the smallest value that gives the stored number, and answers 40 exactly where none does.
 use Prim.Native.Nat.{ℕ, _+_, _*_, _/_, _%_, _≤_, _<_}
-use mathlib.Core.Bool.{Bool, true, false, cond}
+use mathlib.Core.Bool.{Bool, true, false}
 use mathlib.Core.Logic.{_⊎_, inl, inr, ⊎-elim}
 use mathlib.Core.Path.{_≡_, refl, sym, _∙_}
 use native.Mathlib.Omega.{arith}
-use lib.Dec.{eqb, leb}
+use lib.Dec.{eqb}
 use borrow.Author.Tests.{eqb-true, eqb-false}
 use Rattle.ground.proofs.Tests.{by}
 use Rattle.controls.specs.declared.Row.{Row}
@@ -12,7 +12,7 @@ use Rattle.controls.specs.declared.Reading.{Reading}
 use Rattle.controls.specs.declared.Reading.the-variants.{Value, Refused}
 use Rattle.controls.specs.Formulas.{m-upper, m-lower, numberBy, mOf, nextBy}
 use Rattle.controls.specs.Showing.{smallest, sevenBits, shownOf}
-use Rattle.controls.proofs.Smallest.{First, searched}
+use Rattle.controls.proofs.Smallest.{searched}
 
 -- The number that is stored, by the formula.
 module _ (formula v stored : ℕ) where

@@ -1,30 +1,21 @@
 -- The theorems of applying, for every controller, value and edit buffer.
-use Prim.Native.Nat.{ℕ, _+_, _*_, _/_, _%_, _≤_, _<_}
-use mathlib.Core.Bool.{Bool, true, false, cond}
+use Prim.Native.Nat.{ℕ, _≤_, _<_}
+use mathlib.Core.Bool.{true, false}
 use mathlib.Core.List.{List}
-use mathlib.Core.Logic.{_⊎_, inl, inr, ⊎-elim}
-use mathlib.Core.Path.{_≡_, refl, sym, ap, _∙_}
-use native.Mathlib.Nat.{lt-of-not-le}
+use mathlib.Core.Logic.{_⊎_, ⊎-elim}
+use mathlib.Core.Path.{_≡_, refl}
 use native.Mathlib.Omega.{arith}
 use lib.Dec.{eqb, ltb}
 use lib.ListN.{length, getD}
-use borrow.Author.Tests.{le-ltb, ne-eqb, eq-eqb, ltb-true, ltb-false, eqb-true, eqb-false}
-use Rattle.ground.specs.Lists.{allAtMost}
+use borrow.Author.Tests.{le-ltb, ne-eqb, ltb-true, ltb-false, eqb-false}
 use Rattle.ground.proofs.Tests.{by}
-use Rattle.ground.proofs.Computed.{every, every-at}
 use Rattle.controls.specs.declared.Row.{Row}
-use Rattle.controls.specs.declared.Change.{Change}
 use Rattle.controls.specs.declared.Change.the-variants as change
-use Rattle.controls.specs.declared.Reading.{Reading}
 use Rattle.controls.specs.declared.Reading.the-variants as reading
-use Rattle.controls.specs.Formulas.{m-upper, m-lower, mOf, nextBy}
-use Rattle.controls.specs.Table.{programSize, none, chorus, rotary, rows, rowOf, selections, effectOf, selected}
-use Rattle.controls.specs.Fields.{readAt, putAt}
+use Rattle.controls.specs.Table.{programSize, chorus, rotary, rows, rowOf, selections, effectOf, selected}
 use Rattle.controls.specs.Applying.{Left, left, store, applyOf}
-use Rattle.controls.specs.Showing.{shownOf, backOf}
-use Rattle.controls.proofs.Bytes.{Outside, above, length-put, put-outside, read-put, put-read}
-use Rattle.controls.proofs.Rows.{row-sane, above-127, whole-upper, whole-lower, number-room, shared-beyond, beside-46}
-use Rattle.controls.proofs.Back.{Gives, Least, NoneGives, Shown, shown, next-upper, next-lower, next-plain, m-small, m-of-six}
+use Rattle.controls.proofs.Bytes.{Outside, length-put, put-outside}
+use Rattle.controls.proofs.Rows.{beside-46}
 
 -- the buffer is long enough, the controller is in the table, and its effect is selected
 pub record Open (controller : ℕ) (edit : List ℕ) : Type 0 where

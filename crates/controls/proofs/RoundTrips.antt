@@ -1,10 +1,9 @@
 -- The theorems of showing back, and of applying and showing back, for every controller, value and edit buffer.
-use Prim.Native.Nat.{ℕ, _+_, _*_, _/_, _%_, _≤_, _<_}
-use mathlib.Core.Bool.{Bool, true, false, cond}
+use Prim.Native.Nat.{ℕ, _≤_, _<_}
+use mathlib.Core.Bool.{true}
 use mathlib.Core.List.{List}
-use mathlib.Core.Logic.{_⊎_, inl, inr, ⊎-elim}
-use mathlib.Core.Path.{_≡_, refl, sym, ap, _∙_}
-use native.Mathlib.Nat.{lt-of-not-le}
+use mathlib.Core.Logic.{inl, ⊎-elim}
+use mathlib.Core.Path.{_≡_, refl, ap, _∙_}
 use native.Mathlib.Omega.{arith}
 use lib.Dec.{eqb, ltb}
 use lib.ListN.{length, getD}
@@ -14,14 +13,14 @@ use Rattle.ground.proofs.Tests.{by}
 use Rattle.controls.specs.declared.Reading.{Reading}
 use Rattle.controls.specs.declared.Reading.the-variants.{Value, Refused}
 use Rattle.controls.specs.declared.Change.the-variants as change
-use Rattle.controls.specs.Formulas.{m-upper, m-lower, numberBy, mOf, nextBy}
+use Rattle.controls.specs.Formulas.{mOf, nextBy}
 use Rattle.controls.specs.Table.{programSize, none, rowOf, effectOf, selected}
-use Rattle.controls.specs.Fields.{readAt, putAt}
-use Rattle.controls.specs.Applying.{Left, left, store, applyOf}
+use Rattle.controls.specs.Fields.{readAt}
+use Rattle.controls.specs.Applying.{left, store, applyOf}
 use Rattle.controls.specs.Showing.{shownOf, backOf}
-use Rattle.controls.proofs.Bytes.{Outside, above, length-put, put-outside, read-put, put-read}
+use Rattle.controls.proofs.Bytes.{above, length-put, put-outside, read-put, put-read}
 use Rattle.controls.proofs.Rows.{row-sane, whole-upper, whole-lower, number-room, shared-beyond}
-use Rattle.controls.proofs.Back.{Gives, Least, NoneGives, Shown, shown, next-upper, next-lower, next-plain, which-formula, m-small, gives-again}
+use Rattle.controls.proofs.Back.{Least, NoneGives, Shown, shown, next-upper, next-lower, next-plain, which-formula, m-small, gives-again}
 use Rattle.controls.proofs.Controllers.{Open, applied}
 
 -- the number that stands in a controller's bytes

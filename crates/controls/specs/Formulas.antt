@@ -1,6 +1,6 @@
 -- The formulas of "Controllers into the edit buffer": "v is the value received, division drops the remainder".
 use Prim.Native.Nat.{ℕ, _+_, _-_, _*_, _/_, _%_, min}
-use mathlib.Core.Bool.{Bool, cond}
+use mathlib.Core.Bool.{cond}
 use lib.Dec.{eqb}
 
 -- Their names, as the page writes them, in its order.

@@ -1,6 +1,6 @@
 -- "Scaling may be asked directly: it returns the formula's number and doesn't look at byte 46."
 use Prim.Native.Nat.{ℕ}
-use mathlib.Core.Bool.{Bool, cond}
+use mathlib.Core.Bool.{cond}
 use lib.Dec.{eqb, ltb}
 use Rattle.controls.specs.declared.Row.{Row}
 use Rattle.controls.specs.declared.Reading.{Reading}

@@ -1,6 +1,5 @@
 -- Which byte goes to which place of the receive buffer.
 use Prim.Native.Nat.{ℕ, _<_}
-use mathlib.Core.Bool.{Bool, cond}
 use mathlib.Core.Logic.{_⊎_, inl, inr}
 use mathlib.Core.Path.{_≡_, refl}
 use lib.Dec.{ltb, eqb}

@@ -22,6 +22,16 @@ pub struct Receiver {
     pub waiting: u8,
 }
 
+// Nothing open, stored, waiting or running.
+pub const FRESH: Receiver = Receiver {
+    stored: 0,
+    inside: 0,
+    over: 0,
+    running: 0,
+    held: 0,
+    waiting: 0,
+};
+
 // What a byte did, and what it leaves to do for whoever has the receive buffer.
 pub enum Event {
     Nothing,

@@ -10,7 +10,7 @@ use borrow.Author.Tests.{le-leb, leb-true, eq-eqb}
 use Rattle.ground.specs.Lists.{allAtMost}
 use Rattle.ground.proofs.Tests.{both, by}
 use Rattle.halves.specs.declared.Moved.{Moved}
-use Rattle.halves.specs.declared.Moved.the-variants.{Done, Misfit, Above}
+use Rattle.halves.specs.declared.Moved.the-variants.{Done}
 use Rattle.halves.specs.HalfBytes.{split, join, allHalves}
 use Rattle.halves.specs.Moving.{Left, left, numberOf, fits, splitInto, joinInto}
 

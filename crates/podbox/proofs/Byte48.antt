@@ -1,27 +1,26 @@
 -- Byte 48: the demand's own story, at the sockets of the box.
-use Prim.Native.Nat.{ℕ, _+_, _*_, _/_, _%_, _≤_, _<_}
-use mathlib.Core.Bool.{Bool, true, false, cond, _&&_}
+use Prim.Native.Nat.{ℕ, _+_, _/_, _%_, _≤_}
+use mathlib.Core.Bool.{true, false}
 use mathlib.Core.List.{List, []}
 use mathlib.Core.Logic.{⊎-elim}
-use mathlib.Core.Path.{_≡_, refl, sym, ap, _∙_}
+use mathlib.Core.Path.{_≡_, ap, _∙_}
 use native.Mathlib.Omega.{arith}
-use lib.Dec.{leb, eqb}
+use lib.Dec.{leb}
 use lib.ListN.{length, getD, drop, length-take, length-drop}
 use lib.Seq.{getD-take, getD-drop}
-use borrow.Author.Tests.{le-ltb, lt-ltb, lt-leb, le-leb, eq-eqb, ne-eqb, leb-true}
+use borrow.Author.Tests.{le-ltb, lt-ltb, lt-leb, eq-eqb, ne-eqb, leb-true}
 use Rattle.ground.proofs.Tests.{both}
-use Rattle.framing.specs.declared.Receiver.{Receiver}
-use Rattle.framing.specs.Receiver.{underOf, holdingOf, soundOf, takesOne}
+use Rattle.framing.specs.Receiver.{underOf, holdingOf, takesOne}
 use Rattle.framing.specs.Bytes.{stepOf}
-use Rattle.framing.proofs.Stands.{Stands, holding, stands-sound}
+use Rattle.framing.proofs.Stands.{holding, stands-sound}
 use Rattle.controls.proofs.Controllers.{Flanger, RotaryMove, rotary-under-flanger}
 use Rattle.sysex.specs.declared.Settings.{Settings}
 use Rattle.sysex.specs.declared.Answer.the-variants.{Refused}
-use Rattle.sysex.specs.Memory.{memorySize, editPlace, partOf, putPart}
+use Rattle.sysex.specs.Memory.{memorySize, editPlace, partOf}
 use Rattle.sysex.specs.Forms.{longest}
-use Rattle.sysex.specs.Carrying.{Outcome, outcome, refused}
+use Rattle.sysex.specs.Carrying.{outcome, refused}
 use Rattle.podbox.specs.Settings.{size, isValid}
-use Rattle.podbox.specs.Messages.{Channel, isHeard, isController, answerOf, carry}
+use Rattle.podbox.specs.Messages.{Channel, isHeard, isController, carry}
 use Rattle.podbox.specs.Take.{took, limit, stepDoes, readyDoes, takeOf}
 use Rattle.podbox.proofs.Carried.{put-same}
 
@@ -47,8 +46,11 @@ module _ (settings : Settings) (v : isValid settings ≡ true) (memory : List �
       let edit = partOf (editPlace size) size memory in
       let long : length edit ≡ size = simp (length-take, length-drop) (omega arith) in
       let at : getD edit 46 0 ≡ selector memory = getD-take size (drop (editPlace size) memory) 46 0 (omega arith) ∙ getD-drop (editPlace size) memory 46 0 in
-      rw (eq-eqb (ours settings % 16) (settings .channel) (omega arith), eq-eqb (ours settings / 16) 0xB (omega arith),
-      rotary-under-flanger controller value edit rotary h (omega arith) (rw at f)) (ap (λ (x : List ℕ). outcome (Refused 19) x []) (put-same (editPlace size) size memory))
+      rw (
+        eq-eqb (ours settings % 16) (settings .channel) (omega arith),
+        eq-eqb (ours settings / 16) 0xB (omega arith),
+        rotary-under-flanger controller value edit rotary h (omega arith) (rw at f),
+      ) (ap (λ (x : List ℕ). outcome (Refused 19) x []) (put-same (editPlace size) size memory))
 
   takes-two : takesOne (ours settings) ≡ false
   unfolding takesOne
@@ -64,5 +66,16 @@ module _ (settings : Settings) (v : isValid settings ≡ true) (memory : List �
   rotary-on-socket socket receive reply s x r =
       let channel = valid-channel settings v in
       let is-sound = stands-sound limit (holding {s = ours settings} {d = controller} (omega arith) (omega arith) takes-two data-byte) in
-      rw (le-ltb (length memory) (memorySize size) m, le-ltb (length receive) (longest size) x, le-ltb (length reply) (longest size) r, le-ltb 1 socket s,
-      is-sound, v, lt-leb 0xF8 value (omega arith), lt-ltb value 0x80 (omega arith), ne-eqb (ours settings) 0 (λ e. omega arith), takes-two, rotary-refused)
+      rw (
+        le-ltb (length memory) (memorySize size) m,
+        le-ltb (length receive) (longest size) x,
+        le-ltb (length reply) (longest size) r,
+        le-ltb 1 socket s,
+        is-sound,
+        v,
+        lt-leb 0xF8 value (omega arith),
+        lt-ltb value 0x80 (omega arith),
+        ne-eqb (ours settings) 0 (λ e. omega arith),
+        takes-two,
+        rotary-refused,
+      )

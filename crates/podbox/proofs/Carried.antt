@@ -1,17 +1,14 @@
 -- What carrying out a message can do to memory and to the reply: it stores, sends, applies or refuses, and nothing else.
-use Prim.Native.Nat.{ℕ, _+_, _≤_}
-use mathlib.Core.Bool.{Bool, true, false, cond}
-use mathlib.Core.List.{List, [], _∷_, _++_}
-use mathlib.Core.Path.{_≡_, refl, sym, ap, subst, _∙_}
+use Prim.Native.Nat.{ℕ, _≤_}
+use mathlib.Core.List.{List, []}
+use mathlib.Core.Path.{_≡_, _∙_}
 use native.Mathlib.Omega.{arith}
-use lib.ListN.{length, take, drop, length-take, length-drop, take-append-drop}
-use lib.Seq.{drop-drop}
+use lib.ListN.{length, drop, length-take, length-drop, take-append-drop}
 use Rattle.ground.proofs.Tests.{by}
 use Rattle.halves.specs.HalfBytes.{join}
-use Rattle.controls.specs.declared.Change.{Change}
 use Rattle.controls.specs.declared.Change.the-variants as change
 use Rattle.controls.specs.Table.{rowOf}
-use Rattle.controls.specs.Applying.{Left, store, applyOf}
+use Rattle.controls.specs.Applying.{Left, store}
 use Rattle.controls.proofs.Controllers.{apply-cases, store-length}
 use Rattle.sysex.specs.declared.Settings.{Settings}
 use Rattle.sysex.specs.declared.Order.{Order}

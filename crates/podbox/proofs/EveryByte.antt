@@ -1,9 +1,8 @@
 -- Demand 1: every byte on either socket, in any state, is answered, and what each answer leaves.
-use Prim.Native.Nat.{ℕ, _+_, _≤_, _<_}
-use mathlib.Core.Bool.{Bool, true, false, cond}
-use mathlib.Core.List.{List, [], _∷_, _++_}
+use Prim.Native.Nat.{ℕ, _≤_, _<_}
+use mathlib.Core.List.{List}
 use mathlib.Core.Logic.{_⊎_, inl, inr, ⊎-elim}
-use mathlib.Core.Path.{_≡_, refl, sym, ap, _∙_}
+use mathlib.Core.Path.{_≡_, refl, ap}
 use native.Mathlib.Omega.{arith}
 use lib.Dec.{ltb}
 use lib.ListN.{length, take, drop, set}
@@ -22,7 +21,7 @@ use Rattle.sysex.specs.declared.Answer.the-variants.{Taken, Stored, Sent, Appli
 use Rattle.sysex.specs.Memory.{memorySize}
 use Rattle.sysex.specs.Forms.{longest}
 use Rattle.sysex.specs.Numbers.{numberOf, lengthOf}
-use Rattle.sysex.specs.Carrying.{Outcome, outcome, written}
+use Rattle.sysex.specs.Carrying.{Outcome, written}
 use Rattle.podbox.specs.Settings.{size, isValid}
 use Rattle.podbox.specs.Messages.{SysEx, TooLong, Channel, carry}
 use Rattle.podbox.specs.Take.{TookByte, took, limit, carried, eventDoes, stepDoes, readyDoes, takeOf}
@@ -59,60 +58,40 @@ module _ (settings : Settings) (r : Receiver) (byte : ℕ) (memory receive reply
   away number lo hi =
       record { numbered = inr (inr (inl (lo, hi))); refused = λ _. (refl, refl); turned-away = λ _. refl; behind = refl; length-kept = refl; placed = inl refl }
 
-  -- 0 and 4, with the one place that changes
-  quiet : (next : Receiver) (answer : Answer) (after : List ℕ) → numberOf answer ≤ 4 → lengthOf answer ≡ 0 → OnePlace r byte receive after
-      → Good (took next answer memory after reply)
-  quiet next answer after small none place = record {
+  -- 0 to 4: no refusal, so what is left to say is of the reply, of memory's length and of the receive buffer
+  accepted : (next : Receiver) (answer : Answer) (after place sent : List ℕ) → numberOf answer ≤ 4 → drop (lengthOf answer) sent ≡ drop (lengthOf answer) reply
+      → length after ≡ length memory → OnePlace r byte receive place → Good (took next answer after place sent)
+  accepted next answer after place sent small behind kept one = record {
     numbered = inl small;
     refused = λ h. absurd (omega arith);
     turned-away = λ h. absurd (omega arith);
-    behind = refl;
-    length-kept = refl;
-    placed = place
+    behind = behind;
+    length-kept = kept;
+    placed = one;
   }
 
   -- a message that was carried out
   done : (next : Receiver) (o : Outcome) → Tame memory o → Good (carried next o receive reply)
-  done next o (stores after e) = record {
-    numbered = inl (omega arith);
-    refused = λ h. absurd (omega arith);
-    turned-away = λ h. absurd (omega arith);
-    behind = refl;
-    length-kept = e;
-    placed = inl refl
-  }
-  done next o (sends bytes) = record {
-    numbered = inl (omega arith);
-    refused = λ h. absurd (omega arith);
-    turned-away = λ h. absurd (omega arith);
-    behind = drop-append-seam bytes (drop (length bytes) reply);
-    length-kept = refl;
-    placed = inl refl
-  }
-  done next o (applies after e) = record {
-    numbered = inl (omega arith);
-    refused = λ h. absurd (omega arith);
-    turned-away = λ h. absurd (omega arith);
-    behind = refl;
-    length-kept = e;
-    placed = inl refl
-  }
+  done next o (stores after e) = accepted next Stored after receive reply (omega arith) refl e (inl refl)
+  done next o (sends bytes) =
+      accepted next (Sent (length bytes)) memory receive (written bytes reply) (omega arith) (drop-append-seam bytes (drop (length bytes) reply)) refl (inl refl)
+  done next o (applies after e) = accepted next Applied after receive reply (omega arith) refl e (inl refl)
   done next o (refuses number lo hi) = record {
     numbered = inr (inl (lo, hi));
     refused = λ _. (refl, refl);
     turned-away = λ h. absurd (omega arith);
     behind = refl;
     length-kept = refl;
-    placed = inl refl
+    placed = inl refl;
   }
 
   event-answered : memorySize size ≤ length memory → (next : Receiver) (e : Event) → Belongs r byte e → Good (eventDoes settings e next byte memory receive reply)
-  event-answered m next event.Nothing b = quiet next Taken receive (omega arith) refl (inl refl)
+  event-answered m next event.Nothing b = accepted next Taken memory receive reply (omega arith) refl refl (inl refl)
   event-answered m next (event.Collect place) b =
-      quiet next Taken (set receive place byte) (omega arith) refl
+      accepted next Taken memory (set receive place byte) reply (omega arith) refl refl
       (⊎-elim (λ p. inr (inl (ap (λ (k : ℕ). set receive k byte) (p .0), p .1))) (λ p. inr (inr (ap (λ (k : ℕ). set receive k byte) (p .0), p .1))) b)
-  event-answered m next event.Cut b = quiet next Cut receive (omega arith) refl (inl refl)
-  event-answered m next event.CutAndOpen b = quiet next Cut (set receive 0 byte) (omega arith) refl (inr (inr (refl, b)))
+  event-answered m next event.Cut b = accepted next Cut memory receive reply (omega arith) refl refl (inl refl)
+  event-answered m next event.CutAndOpen b = accepted next Cut memory (set receive 0 byte) reply (omega arith) refl refl (inr (inr (refl, b)))
   event-answered m next event.TooLong b = done next (carry settings memory TooLong) (carry-tame settings memory m TooLong)
   event-answered m next (event.SysEx count) b = done next (carry settings memory (SysEx (take count receive))) (carry-tame settings memory m (SysEx (take count receive)))
   event-answered m next (event.Channel status first second) b =

@@ -1,10 +1,10 @@
 -- A message that is handed over whole is stored exactly when it is a dump, answered exactly when it is a request or an identity request
 -- that is ours, and else refused, which changes nothing.
-use Prim.Native.Nat.{ℕ, _+_, _≤_}
-use mathlib.Core.Bool.{Bool, true, false, cond}
+use Prim.Native.Nat.{ℕ, _≤_}
+use mathlib.Core.Bool.{true}
 use mathlib.Core.List.{List, [], _∷_, _++_}
 use mathlib.Core.Logic.{_⊎_, inl, inr}
-use mathlib.Core.Path.{_≡_, refl, sym, ap, _∙_}
+use mathlib.Core.Path.{_≡_, ap, _∙_}
 use native.Mathlib.Omega.{arith}
 use lib.Dec.{ltb}
 use lib.ListN.{length, drop}
@@ -13,20 +13,18 @@ use Rattle.ground.proofs.Tests.{by}
 use Rattle.halves.specs.HalfBytes.{join}
 use Rattle.sysex.specs.declared.Settings.{Settings}
 use Rattle.sysex.specs.declared.Order.{Order}
-use Rattle.sysex.specs.declared.Answer.{Answer}
-use Rattle.sysex.specs.declared.Answer.the-variants.{Taken, Stored, Sent, Applied, Cut, Refused}
+use Rattle.sysex.specs.declared.Answer.the-variants.{Stored, Sent, Refused}
 use Rattle.sysex.specs.Memory.{memorySize, partOf, putPart}
-use Rattle.sysex.specs.Forms.{longest, dataPlace, dumpOf, identityOf, isOurs}
-use Rattle.sysex.specs.Numbers.{numberOf, lengthOf}
+use Rattle.sysex.specs.Forms.{longest, dataPlace, identityOf, isOurs}
 use Rattle.sysex.specs.Judging.{judgeOf}
 use Rattle.sysex.specs.Carrying.{Outcome, Left, left, leaves, written, orderDoes}
-use Rattle.sysex.specs.Formats.{Target, There, typeFor, ppFor, placeFor, countFor, requestBody, dumpBody, identityBody, sendOrder, storeOrder, IsDump, IsRequest, IsIdentity}
+use Rattle.sysex.specs.Formats.{Target, There, typeFor, placeFor, countFor}
 use Rattle.sysex.proofs.Understands.{Meant, identity, asked, dumped, refused, meant}
 use Rattle.podbox.specs.Settings.{size, isValid}
 use Rattle.podbox.specs.Messages.{SysEx, carry}
-use Rattle.podbox.specs.Whole.{isFramed, bodyOf, messageDoes, wholeOf}
-use Rattle.podbox.proofs.Frames.{frame, frame-body, framed-is}
-use Rattle.podbox.proofs.WholeMessages.{store-does, send-does, dumpMessage, requestMessage, identityMessage, handed, dump-stored}
+use Rattle.podbox.specs.Whole.{isFramed, bodyOf, wholeOf}
+use Rattle.podbox.proofs.Frames.{frame-body, framed-is}
+use Rattle.podbox.proofs.WholeMessages.{store-does, send-does, dumpMessage, requestMessage, identityMessage, handed}
 
 -- a message is a dump of these bytes to this place
 pub record DumpIs (t : Target) (bytes message : List ℕ) : Type 0 where
@@ -50,7 +48,6 @@ module _ (settings : Settings) (message memory reply : List ℕ) (P : Left → T
     (when-asked : (t : Target) → RequestIs t message
     → (let d = dumpMessage t (partOf (placeFor size t) (countFor size t) memory) in P (left (Sent (length d)) memory (written d reply))))
     (when-identity : (cc : ℕ) → IdentityIs settings cc message → P (left (Sent 17) memory (written (identityOf settings cc) reply))) where
-
   by-order : (body : List ℕ) → message ≡ body ++ (0xF7 ∷ []) → (o : Order) → Meant size settings body o → P (leaves (orderDoes size settings o body memory) reply)
   unfolding orderDoes
   by-order body e o (identity channel i) =

@@ -6,3 +6,4 @@ pub mod Refusals
 pub mod Carried
 pub mod EveryByte
 pub mod Byte48
+pub mod OneResult

@@ -1,11 +1,11 @@
 -- A message that is handed over whole is refused with a number exactly when that test fails and every earlier one holds, and then nothing changes.
 use Prim.Native.Nat.{ℕ, _≤_}
 use mathlib.Core.Bool.{Bool, true, false, cond, not}
-use mathlib.Core.List.{List, [], _∷_}
+use mathlib.Core.List.{List, _∷_}
 use mathlib.Core.Path.{_≡_, refl, sym, ap, _∙_}
 use native.Mathlib.Omega.{arith}
 use lib.Dec.{ltb}
-use lib.ListN.{length, getD}
+use lib.ListN.{length}
 use Rattle.sysex.specs.declared.Settings.{Settings}
 use Rattle.sysex.specs.declared.Order.{Order}
 use Rattle.sysex.specs.declared.Answer.{Answer}
@@ -13,12 +13,12 @@ use Rattle.sysex.specs.declared.Answer.the-variants.{Taken, Stored, Sent, Appli
 use Rattle.sysex.specs.Memory.{memorySize}
 use Rattle.sysex.specs.Forms.{longest}
 use Rattle.sysex.specs.Numbers.{numberOf, lengthOf}
-use Rattle.sysex.specs.Judging.{Test, test, judgeOf}
+use Rattle.sysex.specs.Judging.{Test, test}
 use Rattle.sysex.specs.Carrying.{Outcome, refused, Left, left, leaves, orderDoes}
 use Rattle.sysex.proofs.InOrder.{FirstToFail, guard, guard-refused, guard-exactly, guard-map, judgeTests, passedOrder, judged-guard, passed-not-refused}
 use Rattle.podbox.specs.Settings.{size, isValid}
 use Rattle.podbox.specs.Messages.{SysEx, carry}
-use Rattle.podbox.specs.Whole.{isFramed, bodyOf, messageDoes, wholeOf}
+use Rattle.podbox.specs.Whole.{isFramed, bodyOf, wholeOf}
 
 -- the tests of a call, in their order: 30, 30, 32, 10, 11, and those of the body
 abbrev pub wholeTests : Settings → List ℕ → List ℕ → List ℕ → List Test

@@ -1,31 +1,27 @@
 -- Demand 2 for a message that is handed over whole: what is stored, what is answered, and what comes back.
-use Prim.Native.Nat.{ℕ, suc, _+_, _*_, _≤_, _<_}
-use mathlib.Core.Bool.{Bool, true, false, cond}
-use mathlib.Core.List.{List, [], _∷_, _++_, append-assoc}
-use mathlib.Core.Path.{_≡_, refl, sym, ap, _∙_}
+use Prim.Native.Nat.{ℕ, _+_, _≤_}
+use mathlib.Core.Bool.{true}
+use mathlib.Core.List.{List, [], _∷_, _++_}
+use mathlib.Core.Path.{_≡_, refl, ap, _∙_}
 use native.Mathlib.Omega.{arith}
-use lib.Dec.{ltb}
 use lib.ListN.{length, drop, length-append}
 use borrow.Author.Tests.{le-ltb, le-leb}
 use Rattle.ground.specs.Lists.{allAtMost}
-use Rattle.ground.proofs.AtMost.{at-most-more, at-most-append}
-use Rattle.ground.proofs.Tests.{by}
+use Rattle.ground.proofs.AtMost.{at-most-more}
 use Rattle.halves.specs.HalfBytes.{split, join}
 use Rattle.halves.proofs.Laws.{length-split, join-split, split-halves}
 use Rattle.sysex.specs.declared.Settings.{Settings}
-use Rattle.sysex.specs.declared.Order.{Order}
-use Rattle.sysex.specs.declared.Answer.{Answer}
-use Rattle.sysex.specs.declared.Answer.the-variants.{Stored, Sent, Refused}
+use Rattle.sysex.specs.declared.Answer.the-variants.{Stored, Sent}
 use Rattle.sysex.specs.Memory.{memorySize, partOf, putPart}
 use Rattle.sysex.specs.Forms.{longest, dataPlace, identityOf, isOurs}
 use Rattle.sysex.specs.Judging.{judgeOf}
-use Rattle.sysex.specs.Carrying.{Outcome, Left, left, leaves, written, orderDoes}
-use Rattle.sysex.specs.Formats.{Target, One, Edit, All, There, typeFor, ppFor, placeFor, countFor, requestBody, dumpBody, identityBody, sendOrder, storeOrder, IsDump, IsRequest, IsIdentity}
+use Rattle.sysex.specs.Carrying.{Left, left, leaves, written, orderDoes}
+use Rattle.sysex.specs.Formats.{Target, One, Edit, All, There, typeFor, ppFor, placeFor, countFor, requestBody, dumpBody, identityBody, sendOrder, storeOrder}
 use Rattle.sysex.proofs.Accepts.{dump-judged, request-judged, identity-judged}
 use Rattle.sysex.proofs.Stored.{part-put, put-length}
 use Rattle.podbox.specs.Settings.{size, isValid}
 use Rattle.podbox.specs.Messages.{carry}
-use Rattle.podbox.specs.Whole.{isFramed, bodyOf, messageDoes, wholeOf}
+use Rattle.podbox.specs.Whole.{messageDoes, wholeOf}
 use Rattle.podbox.proofs.Frames.{frame, frame-body, frame-framed}
 
 -- The whole messages: a body, and F7.

@@ -1,6 +1,6 @@
 -- One byte on one socket: "A call tests 30, 31, 32 in that order, then takes the byte."
 use Prim.Native.Nat.{ℕ, _-_, _≤_, _<_}
-use mathlib.Core.Bool.{Bool, cond}
+use mathlib.Core.Bool.{cond}
 use mathlib.Core.List.{List}
 use lib.Dec.{ltb}
 use lib.ListN.{length, take, set}

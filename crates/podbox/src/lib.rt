@@ -6,6 +6,11 @@ mod socket;
 
 use framing::Receiver;
 pub use panel::whole_message;
+pub use settings::Buffer;
+pub use settings::FRESH_SETTINGS;
+pub use settings::LONGEST;
+pub use settings::MEMORY;
+pub use settings::Memory;
 pub use socket::take_byte;
 use sysex::Answer;
 

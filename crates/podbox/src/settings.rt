@@ -1,19 +1,33 @@
-// The lengths of this box, and whether its settings are in range.
+// The lengths of this box, the settings of a fresh one, and whether settings are in range.
 ghost use mathlib.Core.Path.{_≡_};
 ghost use Rattle.podbox.specs.Settings.{isValid};
 use sysex::Settings;
 
 // 36 programs and the edit buffer.
-pub(crate) const MEMORY: usize = 37 * sysex::PROGRAM;
+pub const MEMORY: usize = 37 * sysex::PROGRAM;
 
 // Where the edit buffer begins.
 pub(crate) const EDIT: usize = 36 * sysex::PROGRAM;
 
 // The longest message, F0 and F7 with it: an all programs dump.
-pub(crate) const LONGEST: usize = 72 * sysex::PROGRAM + 9;
+pub const LONGEST: usize = 72 * sysex::PROGRAM + 9;
+
+// The shortest that a call may be lent: memory, and a receive or a reply buffer.
+pub type Memory = [u8; MEMORY];
+
+pub type Buffer = [u8; LONGEST];
 
 // The most bytes of a SysEx that are stored: all but its F7.
 pub(crate) const LIMIT: u16 = 5192;
+
+pub const FRESH_SETTINGS: Settings = Settings {
+    channel: 0,
+    omni: 0,
+    revision0: 0x30,
+    revision1: 0x31,
+    revision2: 0x30,
+    revision3: 0x30,
+};
 
 pub(crate) fn are_valid(settings: Settings) -> bool
     ensures { λ r. ⌜ r ≡ isValid settings ⌝ }

@@ -2,8 +2,7 @@
 ghost use mathlib.Core.Path.{_≡_};
 ghost use Prim.Native.Nat.{_≤_};
 ghost use lib.ListN.{length};
-ghost use Rattle.framing.specs.Bytes.{stepOf};
-ghost use Rattle.podbox.specs.Take.{took, limit, Within, stepDoes, readyDoes, takeOf};
+ghost use Rattle.podbox.specs.Take.{took, Within, stepDoes, readyDoes, takeOf};
 use crate::Took;
 use crate::channel;
 use crate::settings;

@@ -1,21 +1,20 @@
 -- The judge accepts every dump, every request and every identity request that is ours, as its format says.
 use Prim.Native.Nat.{ℕ, suc, _+_, _*_, _≤_}
-use mathlib.Core.Bool.{Bool, true, false, cond, _&&_}
-use mathlib.Core.List.{List, [], _∷_, _++_}
-use mathlib.Core.Path.{_≡_, refl, _∙_}
+use mathlib.Core.Bool.{Bool, true, false, _&&_}
+use mathlib.Core.List.{List, [], _∷_}
+use mathlib.Core.Path.{_≡_, refl}
 use native.Mathlib.Omega.{arith}
 use lib.Dec.{eqb}
 use lib.ListN.{length}
 use borrow.Author.Tests.{le-leb, eq-eqb}
 use Rattle.ground.specs.Lists.{allAtMost}
-use Rattle.halves.specs.HalfBytes.{split, join, allHalves}
+use Rattle.halves.specs.HalfBytes.{split}
 use Rattle.halves.proofs.Laws.{length-split, split-halves}
 use Rattle.sysex.specs.declared.Settings.{Settings}
-use Rattle.sysex.specs.declared.Order.{Order}
-use Rattle.sysex.specs.declared.Order.the-variants.{Identify, Refused}
-use Rattle.sysex.specs.Forms.{header, bodyLength, isIdentity, isOurs}
-use Rattle.sysex.specs.Judging.{hasProgram, testsOf, firstFailed, orderOf, judgeOf}
-use Rattle.sysex.specs.Formats.{Target, One, Edit, All, There, countFor, requestBody, dumpBody, identityBody, sendOrder, storeOrder, IsDump, IsRequest, IsIdentity}
+use Rattle.sysex.specs.declared.Order.the-variants.{Identify}
+use Rattle.sysex.specs.Forms.{bodyLength, isIdentity, isOurs}
+use Rattle.sysex.specs.Judging.{hasProgram, testsOf, orderOf, judgeOf}
+use Rattle.sysex.specs.Formats.{Target, One, Edit, All, There, countFor, requestBody, dumpBody, identityBody, sendOrder, storeOrder}
 
 and-false : (a : Bool) → (a && false) ≡ false
 and-false true = refl
@@ -38,16 +37,29 @@ module _ (size : ℕ) (settings : Settings) where
     unfolding judgeOf testsOf bodyLength hasProgram orderOf
     dump-judged (One p) h e =
         let l = length-split bytes in
-        rw (no-identity (0x01 ∷ 0x0C ∷ 0x01 ∷ 1 ∷ 0 ∷ p ∷ 0 ∷ split bytes), le-leb 7 (length (dumpBody (One p) bytes)) (omega arith),
-        eq-eqb (length (dumpBody (One p) bytes)) (9 + 2 * size) (omega arith), le-leb p 0x23 h, split-halves bytes low)
+        rw (
+          no-identity (0x01 ∷ 0x0C ∷ 0x01 ∷ 1 ∷ 0 ∷ p ∷ 0 ∷ split bytes),
+          le-leb 7 (length (dumpBody (One p) bytes)) (omega arith),
+          eq-eqb (length (dumpBody (One p) bytes)) (9 + 2 * size) (omega arith),
+          le-leb p 0x23 h,
+          split-halves bytes low,
+        )
     dump-judged Edit h e =
         let l = length-split bytes in
-        rw (no-identity (0x01 ∷ 0x0C ∷ 0x01 ∷ 1 ∷ 1 ∷ 0 ∷ split bytes), le-leb 7 (length (dumpBody Edit bytes)) (omega arith),
-        eq-eqb (length (dumpBody Edit bytes)) (8 + 2 * size) (omega arith), split-halves bytes low)
+        rw (
+          no-identity (0x01 ∷ 0x0C ∷ 0x01 ∷ 1 ∷ 1 ∷ 0 ∷ split bytes),
+          le-leb 7 (length (dumpBody Edit bytes)) (omega arith),
+          eq-eqb (length (dumpBody Edit bytes)) (8 + 2 * size) (omega arith),
+          split-halves bytes low,
+        )
     dump-judged All h e =
         let l = length-split bytes in
-        rw (no-identity (0x01 ∷ 0x0C ∷ 0x01 ∷ 1 ∷ 2 ∷ 0 ∷ split bytes), le-leb 7 (length (dumpBody All bytes)) (omega arith),
-        eq-eqb (length (dumpBody All bytes)) (8 + 2 * (36 * size)) (omega arith), split-halves bytes low)
+        rw (
+          no-identity (0x01 ∷ 0x0C ∷ 0x01 ∷ 1 ∷ 2 ∷ 0 ∷ split bytes),
+          le-leb 7 (length (dumpBody All bytes)) (omega arith),
+          eq-eqb (length (dumpBody All bytes)) (8 + 2 * (36 * size)) (omega arith),
+          split-halves bytes low,
+        )
 
   pub identity-judged : (cc : ℕ) → cc ≤ 0x7F → isOurs settings cc ≡ true → judgeOf size settings (identityBody cc) ≡ Identify cc
   unfolding judgeOf isIdentity

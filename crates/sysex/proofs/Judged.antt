@@ -1,21 +1,16 @@
--- What an order says of the body that was judged.
-use Prim.Native.Nat.{ℕ, _+_, _*_, _≤_}
+-- What holds of a body that passes every test.
+use Prim.Native.Nat.{ℕ, _≤_}
 use mathlib.Core.Bool.{Bool, true, false, cond, _&&_}
-use mathlib.Core.List.{List, [], _∷_}
-use mathlib.Core.Path.{_≡_, refl, sym, _∙_}
+use mathlib.Core.List.{List}
+use mathlib.Core.Path.{_≡_, refl}
 use native.Mathlib.Omega.{arith}
 use lib.Dec.{eqb, leb}
 use lib.ListN.{length, getD, drop}
-use borrow.Author.Tests.{eqb-true, eqb-false, leb-true, ne-eqb}
-use Rattle.ground.proofs.Tests.{both, by}
+use borrow.Author.Tests.{eqb-true, leb-true}
+use Rattle.ground.proofs.Tests.{both}
 use Rattle.halves.specs.HalfBytes.{allHalves}
-use Rattle.sysex.specs.declared.Settings.{Settings}
-use Rattle.sysex.specs.declared.Order.{Order}
-use Rattle.sysex.specs.declared.Order.the-variants.{Identify, SendProgram, SendEdit, SendAll, StoreProgram, StoreEdit, StoreAll, Refused}
-use Rattle.sysex.specs.Memory.{allSize}
-use Rattle.sysex.specs.Forms.{header, begins, opcodeOf, typeOf, programOf, request, program, edit, all, versionPlace, dataPlace, dataCount, bodyLength, isIdentity, isOurs}
-use Rattle.sysex.specs.Judging.{firstFailed, isKnown, isLong, hasProgram, dataTests, fieldTests, formTests, testsOf, orderOf, orderUnless, identifyOf, judgeOf}
-use Rattle.sysex.specs.Carrying.{HasData, Fits}
+use Rattle.sysex.specs.Forms.{header, begins, opcodeOf, typeOf, programOf, request, versionPlace, dataPlace, bodyLength}
+use Rattle.sysex.specs.Judging.{firstFailed, isKnown, isLong, hasProgram, dataTests, testsOf}
 
 -- where no test fails, the first holds and so do the rest
 held : (t : Bool) (number rest : ℕ) → (number ≡ 0 → ⊥) → cond t rest number ≡ 0 → (t ≡ true) × (rest ≡ 0)
@@ -54,38 +49,3 @@ right size body none =
       halves = λ e. held (allHalves (drop (dataPlace (typeOf body)) body)) 16 _ (λ e. omega arith)
           (held (eqb (getD body (versionPlace (typeOf body)) 0) 0) 15 _ (λ e. omega arith) (rest e) .1) .0;
     }
-
-module _ (size : ℕ) (body : List ℕ) (r : Right size body) where
-  -- the program is one of the 36 where the type has one
-  listed : eqb (typeOf body) program ≡ true → programOf body ≤ 0x23
-  unfolding hasProgram
-  listed t = leb-true _ _ (rw t at (r .numbered))
-
-  -- a dump has its data
-  has-data : (type count : ℕ) → eqb (opcodeOf body) request ≡ false → typeOf body ≡ type → dataCount size type ≡ 2 * count → HasData type count body
-  unfolding bodyLength
-  has-data type count d e k =
-      let whole = rw (d, e) at (r .whole) in
-      (omega (arith, k), rw e at (r .halves d))
-
-  pub order-fits : Fits size (orderOf (opcodeOf body) (typeOf body) (programOf body)) body
-  unfolding orderOf
-  order-fits =
-      by (λ o. Fits size o body) (eqb (opcodeOf body) request) _ _
-      (λ _. by (λ o. Fits size o body) (eqb (typeOf body) program) _ _ listed (λ _. by (λ o. Fits size o body) (eqb (typeOf body) edit) _ _ (λ _. tt) (λ _. tt)))
-      (λ d. by (λ o. Fits size o body) (eqb (typeOf body) program) _ _
-      (λ t. (listed t, has-data program size d (eqb-true _ _ t) refl))
-      (λ t. by (λ o. Fits size o body) (eqb (typeOf body) edit) _ _
-      (λ u. has-data edit size d (eqb-true _ _ u) refl)
-      (λ u.
-      let not-program = eqb-false (typeOf body) program t in
-      let not-edit = eqb-false (typeOf body) edit u in
-      let small = r .type in
-      has-data all (allSize size) d (omega arith) refl)))
-
-pub judged-fits : (size : ℕ) (settings : Settings) (body : List ℕ) → Fits size (judgeOf size settings body) body
-unfolding judgeOf
-judged-fits size settings body =
-    by (λ o. Fits size o body) (isIdentity body) _ _
-    (λ _. by (λ o. Fits size o body) (isOurs settings (getD body 2 0)) _ _ (λ _. tt) (λ _. tt))
-    (λ _. by (λ o. Fits size o body) (eqb (firstFailed (testsOf size body)) 0) _ _ (λ e. order-fits size body (right size body (eqb-true _ _ e))) (λ _. tt))

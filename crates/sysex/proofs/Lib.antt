@@ -6,3 +6,4 @@ pub mod Accepts
 pub mod Understands
 pub mod InOrder
 pub mod Stored
+pub mod OneResult

@@ -1,6 +1,5 @@
 -- Laws of parts of memory that are lent: sent as a dump, or stored from one.
 use Prim.Native.Nat.{ℕ, _+_, _-_, _*_, _≤_}
-use mathlib.Core.Bool.{true}
 use mathlib.Core.List.{List}
 use mathlib.Core.Path.{_≡_, ap, _∙_}
 use native.Mathlib.Nat.{add-sub-cancel-left, mul-le-mul-right}
@@ -8,7 +7,7 @@ use native.Mathlib.Omega.{arith}
 use lib.ListN.{length, take, drop}
 use borrow.Author.Tests.{le-ltb}
 use Rattle.ground.proofs.Lists.{to-end}
-use Rattle.halves.specs.HalfBytes.{join, allHalves}
+use Rattle.halves.specs.HalfBytes.{join}
 use Rattle.sysex.specs.declared.Settings.{Settings}
 use Rattle.sysex.specs.declared.Answer.the-variants.{Sent}
 use Rattle.sysex.specs.Memory.{memorySize, partOf, putPart}

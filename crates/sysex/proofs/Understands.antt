@@ -1,6 +1,6 @@
 -- What the judge answers, with what it says of the body: an order is given for a body of its format, and for no other.
-use Prim.Native.Nat.{ℕ, suc, _+_, _*_, _≤_, _<_}
-use mathlib.Core.Bool.{Bool, true, false, cond, _&&_, false≢true}
+use Prim.Native.Nat.{ℕ, _+_, _*_, _≤_}
+use mathlib.Core.Bool.{true, false, _&&_, false≢true}
 use mathlib.Core.List.{List, [], _∷_, _++_}
 use mathlib.Core.Path.{_≡_, refl, sym, ap, _∙_}
 use native.Mathlib.Omega.{arith}
@@ -11,13 +11,14 @@ use Rattle.ground.specs.Lists.{allAtMost}
 use Rattle.ground.proofs.Lists.{drop-one, drop-two}
 use Rattle.ground.proofs.Tests.{both, by}
 use Rattle.halves.specs.HalfBytes.{split, join, allHalves}
-use Rattle.halves.proofs.Laws.{length-join, join-bytes, split-join}
+use Rattle.halves.proofs.Laws.{length-split, length-join, join-bytes, split-halves, split-join}
 use Rattle.sysex.specs.declared.Settings.{Settings}
 use Rattle.sysex.specs.declared.Order.{Order}
 use Rattle.sysex.specs.declared.Order.the-variants.{Identify, Refused}
-use Rattle.sysex.specs.Forms.{header, begins, opcodeOf, typeOf, programOf, request, program, edit, all, versionPlace, dataPlace, dataCount, bodyLength, isIdentity, isOurs}
+use Rattle.sysex.specs.Forms.{header, begins, opcodeOf, typeOf, programOf, request, program, edit, versionPlace, dataPlace, dataCount, bodyLength, isIdentity, isOurs}
 use Rattle.sysex.specs.Judging.{Test, firstFailed, isKnown, isLong, hasProgram, dataTests, testsOf, orderOf, judgeOf}
-use Rattle.sysex.specs.Formats.{Target, One, Edit, All, There, typeFor, ppFor, countFor, requestBody, dumpBody, identityBody, sendOrder, storeOrder, IsDump, IsRequest, IsIdentity}
+use Rattle.sysex.specs.Carrying.{HasData, Fits}
+use Rattle.sysex.specs.Formats.{Target, One, Edit, All, There, typeFor, ppFor, countFor, requestBody, sendOrder, storeOrder, IsDump, IsRequest, IsIdentity}
 use Rattle.sysex.proofs.Judged.{Right, right}
 
 -- a list that begins so is that beginning, and the rest
@@ -58,7 +59,7 @@ module _ (size : ℕ) (body : List ℕ) (r : Right size body) where
         let nothing : drop 8 body ≡ [] = drop-of-length-le body {i = 8} (omega arith) in
         record {
           there = leb-true _ _ (rw t at (r .numbered));
-          form = opened ∙ (rw (is-request, e, drop-one body 7 (omega arith), nothing))
+          form = opened ∙ (rw (is-request, e, drop-one body 7 (omega arith), nothing));
         }
 
   module _ (d : eqb (opcodeOf body) request ≡ false) where
@@ -90,7 +91,7 @@ module _ (size : ℕ) (body : List ℕ) (r : Right size body) where
           there = h;
           count = x .1;
           whole-bytes = x .2;
-          form = opened ∙ (rw (is-dump, e, p, drop-one body 7 (omega arith), version, ← x .0))
+          form = opened ∙ (rw (is-dump, e, p, drop-one body 7 (omega arith), version, ← x .0));
         }
 
     dump-one : eqb (typeOf body) program ≡ true → IsDump size (One (programOf body)) (join (drop 9 body)) body
@@ -104,7 +105,7 @@ module _ (size : ℕ) (body : List ℕ) (r : Right size body) where
           there = leb-true _ _ (rw t at (r .numbered));
           count = x .1;
           whole-bytes = x .2;
-          form = opened ∙ (rw (is-dump, e, drop-two body 7 (omega arith), version, ← x .0))
+          form = opened ∙ (rw (is-dump, e, drop-two body 7 (omega arith), version, ← x .0));
         }
 
 -- what each order means
@@ -173,8 +174,15 @@ module _ (size : ℕ) (settings : Settings) (body : List ℕ) where
         low = leb-true _ _ (p₂ .0);
         ours = o;
         form = drop-two body 0 (omega arith)
-        ∙ (rw (eqb-true (getD body 0 0) 0xF0 (p₀ .0), eqb-true (getD body 1 0) 0x7E (p₁ .0), drop-two body 2 (omega arith), eqb-true (getD body 3 0) 0x06 (p₃ .0),
-        drop-one body 4 (omega arith), eqb-true (getD body 4 0) 0x01 (p₃ .1), nothing))
+            ∙ (rw (
+              eqb-true (getD body 0 0) 0xF0 (p₀ .0),
+              eqb-true (getD body 1 0) 0x7E (p₁ .0),
+              drop-two body 2 (omega arith),
+              eqb-true (getD body 3 0) 0x06 (p₃ .0),
+              drop-one body 4 (omega arith),
+              eqb-true (getD body 4 0) 0x01 (p₃ .1),
+              nothing,
+            ));
       }
 
   pub meant : Means (judgeOf size settings body)
@@ -185,3 +193,23 @@ module _ (size : ℕ) (settings : Settings) (body : List ℕ) where
       (λ _. by Means (eqb (firstFailed (testsOf size body)) 0) _ _
       (λ e. order-meant (right size body (eqb-true _ _ e)))
       (λ e. let n = failed-number e in refused (firstFailed (testsOf size body)) (n .0) (n .1)))
+
+-- what an order needs of its body to be carried out
+module _ (size : ℕ) (settings : Settings) (body : List ℕ) where
+  has-data : (t : Target) (bytes : List ℕ) → IsDump size t bytes body → HasData (typeFor t) (countFor size t) body
+  has-data (One p) bytes d = rw (d .form) (omega (arith, length-split bytes, d .count), split-halves bytes (d .whole-bytes))
+  has-data Edit bytes d = rw (d .form) (omega (arith, length-split bytes, d .count), split-halves bytes (d .whole-bytes))
+  has-data All bytes d = rw (d .form) (omega (arith, length-split bytes, d .count), split-halves bytes (d .whole-bytes))
+
+  fits : (o : Order) → Meant size settings body o → Fits size o body
+  fits o (identity channel i) = tt
+  fits o (asked (One p) q) = q .there
+  fits o (asked Edit q) = tt
+  fits o (asked All q) = tt
+  fits o (dumped (One p) d) = (d .there, has-data (One p) _ d)
+  fits o (dumped Edit d) = has-data Edit _ d
+  fits o (dumped All d) = has-data All _ d
+  fits o (refused number lo hi) = tt
+
+  pub judged-fits : Fits size (judgeOf size settings body) body
+  judged-fits = fits (judgeOf size settings body) (meant size settings body)

@@ -1,6 +1,6 @@
 -- "SysEx forms". A message's body is F0 and the bytes after it, without F7, as it stands in a receive buffer.
 use Prim.Native.Nat.{ℕ, _+_, _*_}
-use mathlib.Core.Bool.{Bool, cond, _&&_, _||_, true, false}
+use mathlib.Core.Bool.{Bool, cond, _&&_, true, false}
 use mathlib.Core.List.{List, [], _∷_, _++_}
 use lib.Dec.{eqb, leb}
 use lib.ListN.{length, getD}

@@ -1,8 +1,7 @@
 // Bytes read and written at a place.
 ghost use mathlib.Core.Path.{_≡_};
-ghost use mathlib.Core.List.{_++_};
 ghost use Prim.Native.Nat.{_≤_, _+_};
-ghost use lib.ListN.{length, getD, take, drop};
+ghost use lib.ListN.{length, getD};
 ghost use Rattle.sysex.specs.Forms.{begins};
 ghost use Rattle.sysex.specs.Memory.{putPart};
 

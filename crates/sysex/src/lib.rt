@@ -4,10 +4,13 @@ mod answering;
 mod bytes;
 mod carrying;
 mod judging;
+mod numbers;
 
 ghost use mathlib.Core.Path.{_≡_};
 ghost use Rattle.sysex.specs.Judging.{judgeOf};
 ghost use Rattle.sysex.specs.Carrying.{left, carryOf};
+pub use numbers::length_of;
+pub use numbers::number_of;
 
 // The bytes of a program. All other lengths derive from it.
 pub const PROGRAM: usize = 72;

@@ -1,6 +1,6 @@
 -- What is looked at gives another number, so the answer from there on is the answer of the whole.
 use Prim.Native.Nat.{_+_, _-_, _≤_}
-use mathlib.Core.Path.{_≡_, refl, sym, _∙_}
+use mathlib.Core.Path.{_≡_, sym, _∙_}
 use native.Mathlib.Omega.{arith}
 use Rattle.controls.specs.Showing.{smallest}
 use Rattle.controls.proofs.Smallest.{look-stop, look-turn, look-end}

@@ -1,5 +1,4 @@
 -- The tests are those of `channelDoes`, in its order.
-use Rattle.ground.proofs.Tests.{tests}
 use borrow.Author.Needs.{needs}
 use Rattle.podbox.proofs.channel.channel.Statement.{statement}
 use Rattle.podbox.proofs.channel.channel.Tie as tie

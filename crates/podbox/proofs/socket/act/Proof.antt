@@ -2,7 +2,7 @@
 use denote.Ref.{now}
 use mathlib.Core.Path.{ap, _∙_}
 use native.Mathlib.Omega.{arith}
-use lib.ListN.{length-take, length-set}
+use lib.ListN.{length-take}
 use Rattle.sysex.specs.Carrying.{Left, Outcome}
 use Rattle.sysex.proofs.Parts.{carry-long}
 use Rattle.podbox.specs.Messages.{carry}

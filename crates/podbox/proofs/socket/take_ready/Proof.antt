@@ -1,5 +1,4 @@
 -- The tests are those of `readyDoes`, in its order.
-use native.Mathlib.Omega.{arith}
 use mathlib.Core.Path.{sym, _∙_}
 use Rattle.podbox.specs.Take.{readyDoes}
 use Rattle.podbox.proofs.Taking.{step-within}

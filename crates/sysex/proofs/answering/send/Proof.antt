@@ -1,6 +1,6 @@
 -- What comes before the data, the data, the last byte.
 use denote.Ref.{now}
-use mathlib.Core.Path.{refl, _∙_, sym}
+use mathlib.Core.Path.{refl}
 use native.Mathlib.Omega.{arith}
 use lib.ListN.{length-take, length-drop}
 use Rattle.halves.proofs.Laws.{split-leaves}

@@ -1,6 +1,5 @@
 -- Each order, as its case of `orderDoes` has it.
-use denote.Ref.{now}
-use mathlib.Core.Path.{refl, ap}
+use mathlib.Core.Path.{ap}
 use native.Mathlib.Omega.{arith}
 use Rattle.sysex.specs.Carrying.{left, orderDoes}
 use Rattle.sysex.proofs.Parts.{program-inside}

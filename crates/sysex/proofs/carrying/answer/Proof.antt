@@ -4,7 +4,7 @@ use Prim.Native.Nat.{ℕ, _+_, _-_}
 use mathlib.Core.Path.{ap}
 use native.Mathlib.Nat.{add-sub-cancel-left}
 use native.Mathlib.Omega.{arith}
-use lib.ListN.{take, drop, length-take, length-drop}
+use lib.ListN.{take, drop, length-take}
 use Rattle.sysex.proofs.Writing.{dump-length}
 use Rattle.sysex.proofs.Parts.{answered-by}
 use borrow.Author.Needs.{needs}

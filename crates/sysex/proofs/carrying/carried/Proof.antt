@@ -3,7 +3,7 @@ use native.Mathlib.Omega.{arith}
 use Rattle.ground.proofs.Tests.{tests}
 use borrow.Author.Tests.{le-ltb}
 use Rattle.sysex.specs.Carrying.{carryOf}
-use Rattle.sysex.proofs.Judged.{judged-fits}
+use Rattle.sysex.proofs.Understands.{judged-fits}
 use borrow.Author.Needs.{needs}
 use Rattle.sysex.proofs.carrying.carried.Statement.{statement}
 use Rattle.sysex.proofs.carrying.carried.Tie as tie

@@ -1,5 +1,4 @@
 -- The test is the first of `testsOf`.
-use Rattle.ground.proofs.Tests.{tests}
 use Rattle.sysex.specs.Judging.{testsOf}
 use borrow.Author.Needs.{needs}
 use Rattle.sysex.proofs.judging.first_failed.Statement.{statement}

@@ -1,0 +1,73 @@
+// Standard input as socket 0 of a fresh box: a line for each byte whose number is not 0.
+mod lines;
+
+use framing::Receiver;
+use libc::STDIN_FILENO;
+use libc::STDOUT_FILENO;
+use lines::Lines;
+use podbox::Buffer;
+use podbox::Memory;
+
+// Where the listing stands: the socket's receiver, and the place of the next byte.
+struct Stand {
+    receiver: Receiver,
+    place: u64,
+}
+
+fn main() {
+    io::write_all(STDOUT_FILENO, b"at\tnumber\treply\n");
+    let mut part = io::large_buffer();
+    let mut memory: Memory = [0; podbox::MEMORY];
+    let mut receive: Buffer = [0; podbox::LONGEST];
+    let mut reply: Buffer = [0; podbox::LONGEST];
+    list_all(&mut part, &mut memory, &mut receive, &mut reply);
+}
+
+// Part after part, to the end of the input. A proved loop has to end, and nothing says that an input does: so its turns
+// are counted, up to a number that no run reaches.
+fn list_all(part: &mut [u8], memory: &mut Memory, receive: &mut Buffer, reply: &mut Buffer) {
+    let mut stand = Stand {
+        receiver: framing::FRESH,
+        place: 0,
+    };
+    for _ in 0..u64::MAX {
+        let got = libc::read(STDIN_FILENO, part);
+        let n = io::count(got, part);
+        if n == 0 {
+            return;
+        }
+        stand = list_part(stand, &part[..n], memory, receive, reply);
+    }
+}
+
+// The lines of a part are written before the next is waited for.
+fn list_part(
+    before: Stand,
+    part: &[u8],
+    memory: &mut Memory,
+    receive: &mut Buffer,
+    reply: &mut Buffer,
+) -> Stand {
+    let mut lines: Lines = [0; lines::SIZE];
+    let mut used = 0;
+    let mut receiver = before.receiver;
+    let mut place = before.place;
+    for i in 0..part.len() {
+        let took = podbox::take_byte(
+            receiver,
+            0,
+            part[i],
+            podbox::FRESH_SETTINGS,
+            memory,
+            receive,
+            reply,
+        );
+        let answer = took.answer;
+        receiver = took.receiver;
+        used = lines::put_line(&mut lines, used, place, answer);
+        // It would begin again after 2^64 bytes, which no run reaches.
+        place = std::num::wrapping_add_u64(place, 1);
+    }
+    lines::write(&lines, used);
+    Stand { receiver, place }
+}

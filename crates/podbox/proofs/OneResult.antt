@@ -1,0 +1,24 @@
+-- Each promise of this crate leaves room for one result only.
+use Prim.Native.Nat.{ℕ}
+use mathlib.Core.List.{List}
+use mathlib.Core.Path.{_≡_, ap}
+use Rattle.ground.proofs.OneResult.{one}
+use Rattle.framing.specs.declared.Receiver.{Receiver}
+use Rattle.sysex.specs.declared.Settings.{Settings}
+use Rattle.sysex.specs.declared.Answer.{Answer}
+use Rattle.sysex.specs.Carrying.{Left, left}
+use Rattle.podbox.specs.Whole.{wholeOf}
+use Rattle.podbox.specs.Take.{TookByte, took, takeOf}
+
+pub whole-message-one : (settings : Settings) (message memory reply : List ℕ) (a b : Answer) (m n x y : List ℕ)
+    → left a m x ≡ wholeOf settings message memory reply → left b n y ≡ wholeOf settings message memory reply → (a ≡ b) × (m ≡ n) × (x ≡ y)
+whole-message-one settings message memory reply a b m n x y p q =
+    let e = one p q in
+    (ap (λ (l : Left). l .answer) e, ap (λ (l : Left). l .memory) e, ap (λ (l : Left). l .reply) e)
+
+pub take-byte-one : (settings : Settings) (socket : ℕ) (receiver : Receiver) (byte : ℕ) (memory receive reply : List ℕ) (r s : Receiver) (a b : Answer) (m n x y o p : List ℕ)
+    → took r a m x o ≡ takeOf settings socket receiver byte memory receive reply → took s b n y p ≡ takeOf settings socket receiver byte memory receive reply
+    → (r ≡ s) × (a ≡ b) × (m ≡ n) × (x ≡ y) × (o ≡ p)
+take-byte-one settings socket receiver byte memory receive reply r s a b m n x y o p e f =
+    let g = one e f in
+    (ap (λ (l : TookByte). l .receiver) g, ap (λ (l : TookByte). l .answer) g, ap (λ (l : TookByte). l .memory) g, ap (λ (l : TookByte). l .receive) g, ap (λ (l : TookByte). l .reply) g)

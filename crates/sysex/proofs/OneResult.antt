@@ -1,0 +1,26 @@
+-- Each promise of this crate leaves room for one result only.
+use Prim.Native.Nat.{ℕ}
+use mathlib.Core.List.{List}
+use mathlib.Core.Path.{_≡_, ap}
+use Rattle.ground.proofs.OneResult.{one}
+use Rattle.sysex.specs.declared.Settings.{Settings}
+use Rattle.sysex.specs.declared.Order.{Order}
+use Rattle.sysex.specs.declared.Answer.{Answer}
+use Rattle.sysex.specs.Numbers.{numberOf, lengthOf}
+use Rattle.sysex.specs.Judging.{judgeOf}
+use Rattle.sysex.specs.Carrying.{Left, left, carryOf}
+
+pub judge-one : (settings : Settings) (body : List ℕ) (r s : Order) → r ≡ judgeOf 72 settings body → s ≡ judgeOf 72 settings body → r ≡ s
+judge-one settings body r s = one
+
+pub carry-out-one : (settings : Settings) (body memory reply : List ℕ) (r s : Answer) (x y v w : List ℕ)
+    → left r x v ≡ carryOf 72 settings body memory reply → left s y w ≡ carryOf 72 settings body memory reply
+    → (r ≡ s) × (x ≡ y) × (v ≡ w)
+carry-out-one settings body memory reply r s x y v w p q =
+    (ap (λ (l : Left). l .answer) (one p q), ap (λ (l : Left). l .memory) (one p q), ap (λ (l : Left). l .reply) (one p q))
+
+pub number-of-one : (answer : Answer) (r s : ℕ) → r ≡ numberOf answer → s ≡ numberOf answer → r ≡ s
+number-of-one answer r s = one
+
+pub length-of-one : (answer : Answer) (r s : ℕ) → r ≡ lengthOf answer → s ≡ lengthOf answer → r ≡ s
+length-of-one answer r s = one
