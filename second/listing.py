@@ -1,0 +1,119 @@
+"""Write a stream for the listing program, or print its lines for a stream.
+
+python3 second/listing.py stream  writes the stream
+python3 second/listing.py lines   reads a stream and prints its lines
+
+The stream gives every number that a socket of that box can give, with long
+dumps, good and damaged, and with real-time bytes anywhere.
+"""
+
+import sys
+from itertools import cycle
+
+from box import ALL, DUMP, EDIT, END_BYTE, HEADER, PROGRAM, REQUEST, Box
+from controllers import split
+
+PROGRAM_LENGTH = 72
+REAL_TIME = bytes(range(0xF8, 0x100))  # "F8 to FF"
+NUMBERS = {1, 2, 3, 4, *range(10, 23)}
+
+
+def sysex(*fields):
+    """Return a message of the box's header and some fields."""
+    return HEADER + b''.join(map(bytes, fields)) + END_BYTE
+
+
+def pattern(length, seed):
+    """Return bytes that differ from place to place."""
+    return bytes((seed + 37 * place) % 256 for place in range(length))
+
+
+def damaged(message, place, byte):
+    """Return a message with another byte at a place."""
+    return message[:place] + bytes((byte,)) + message[place + 1:]
+
+
+def dumps():
+    """Yield dumps of each type, good and damaged, and requests for them."""
+    one = sysex((DUMP, PROGRAM, 0x23, 0), split(pattern(PROGRAM_LENGTH, 3)))
+    edit = sysex((DUMP, EDIT, 0), split(pattern(PROGRAM_LENGTH, 5)))
+    every = sysex((DUMP, ALL, 0), split(pattern(36 * PROGRAM_LENGTH, 7)))
+    ask = sysex((REQUEST, ALL))
+    for good, data in ((one, 9), (edit, 8), (every, 8)):
+        # "a bad half byte in program 36 then leaves 35 new ones"
+        yield from (damaged(good, -2, 0x10), ask, good, ask)
+        yield damaged(good, data - 1, 1)       # 15
+        yield damaged(good, data, 0x7F)        # 16
+        yield damaged(good, 6, 3)              # 12
+        yield damaged(good, 4, 2)              # 11
+        yield good[:-2] + END_BYTE             # 13
+    yield damaged(one, 7, 0x24)                # 14
+    yield sysex((REQUEST, PROGRAM, 0x23))
+    yield sysex((REQUEST, PROGRAM, 0x24))
+    yield sysex((REQUEST, EDIT))
+
+
+def moves():
+    """Yield every controller at some values, under each effect."""
+    for effect in range(17):
+        yield bytes((0xB0, 19, effect))
+        for controller in range(128):
+            # running status: one status byte for the three moves
+            yield bytes((0xB0, controller, 0, controller, 64,
+                         controller, 127))
+    yield sysex((REQUEST, EDIT))
+
+
+def others():
+    """Yield the rest: other channels and kinds, identity, cuts, too long."""
+    yield bytes((0xB1, 13, 1, 0xC0, 5, 0x90, 60, 1, 0xE0, 0, 64))
+    for channel in (0, 1, 15, 0x7F):
+        yield bytes((0xF0, 0x7E, channel, 6, 1, 0xF7))
+    for status in (0x80, 0xB0, 0xC0, 0xF0, 0xF1, 0xF6):
+        yield bytes((0xF0, 1, 2, status))
+    # running status is lost at F6, and the data bytes are skipped
+    yield bytes((0xF7, 0xB0, 0xF6, 13, 1))
+    for count in (5191, 5192):
+        yield b'\xF0' + bytes(count) + END_BYTE
+    yield b'\xF0' + bytes(5192) + bytes((0xB0, 13, 1))
+
+
+def with_real_time(message, ticks):
+    """Return a message with a real-time byte behind every seventh byte."""
+    parts = (message[at:at + 7] + bytes((next(ticks),))
+             for at in range(0, len(message), 7))
+    return b''.join(parts)
+
+
+def stream():
+    """Return the whole stream: each part plain, and with real-time bytes."""
+    messages = [*dumps(), *moves(), *others()]
+    ticks = cycle(REAL_TIME)
+    return b''.join(messages) + b''.join(
+        with_real_time(message, ticks) for message in messages)
+
+
+def lines(data):
+    """Yield the fields of each line."""
+    box = Box()
+    yield 'at', 'number', 'reply'
+    for at, byte in enumerate(data):
+        number, length = box.take(0, byte)
+        if number:
+            yield at, number, length
+
+
+def main():
+    """Do what the one argument says."""
+    if sys.argv[1] == 'stream':
+        data = stream()
+        shown = {fields[1] for fields in lines(data)} - {'number'}
+        assert shown == NUMBERS, f'missing: {NUMBERS - shown}'
+        sys.stdout.buffer.write(data)
+    else:
+        for fields in lines(sys.stdin.buffer.read()):
+            print(*fields, sep='\t')
+
+
+if __name__ == '__main__':
+    main()
