@@ -8,8 +8,8 @@ use Rattle.framing.specs.declared.Stepped.{Stepped}
 use Rattle.framing.specs.Receiver.{soundOf}
 use Rattle.framing.specs.Bytes.{stepOf}
 
-pub sound : (receiver : Receiver) (limit : ℕ) (x y : Bool) → x ≡ soundOf limit receiver → y ≡ soundOf limit receiver → x ≡ y
-sound receiver limit x y = one
+pub sound-one : (receiver : Receiver) (limit : ℕ) (x y : Bool) → x ≡ soundOf limit receiver → y ≡ soundOf limit receiver → x ≡ y
+sound-one receiver limit x y = one
 
-pub step : (receiver : Receiver) (byte limit : ℕ) (x y : Stepped) → x ≡ stepOf limit receiver byte → y ≡ stepOf limit receiver byte → x ≡ y
-step receiver byte limit x y = one
+pub step-one : (receiver : Receiver) (byte limit : ℕ) (x y : Stepped) → x ≡ stepOf limit receiver byte → y ≡ stepOf limit receiver byte → x ≡ y
+step-one receiver byte limit x y = one

@@ -4,13 +4,13 @@ ghost use Rattle.podbox.specs.Settings.{isValid};
 use sysex::Settings;
 
 // 36 programs and the edit buffer.
-pub const MEMORY: usize = 37 * sysex::PROGRAM;
+pub const MEMORY: usize = (sysex::PROGRAMS + 1) * sysex::PROGRAM;
 
 // Where the edit buffer begins.
-pub(crate) const EDIT: usize = 36 * sysex::PROGRAM;
+pub(crate) const EDIT: usize = sysex::PROGRAMS * sysex::PROGRAM;
 
 // The longest message, F0 and F7 with it: an all programs dump.
-pub const LONGEST: usize = 72 * sysex::PROGRAM + 9;
+pub const LONGEST: usize = 2 * sysex::PROGRAMS * sysex::PROGRAM + 9;
 
 // The shortest that a call may be lent: memory, and a receive or a reply buffer.
 pub type Memory = [u8; MEMORY];
@@ -18,7 +18,7 @@ pub type Memory = [u8; MEMORY];
 pub type Buffer = [u8; LONGEST];
 
 // The most bytes of a SysEx that are stored: all but its F7.
-pub(crate) const LIMIT: u16 = 5192;
+pub(crate) const LIMIT: u16 = LONGEST as u16 - 1;
 
 pub const FRESH_SETTINGS: Settings = Settings {
     channel: 0,

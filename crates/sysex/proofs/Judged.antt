@@ -10,7 +10,7 @@ use borrow.Author.Tests.{eqb-true, leb-true}
 use Rattle.ground.proofs.Tests.{both}
 use Rattle.halves.specs.HalfBytes.{allHalves}
 use Rattle.sysex.specs.Forms.{header, begins, opcodeOf, typeOf, programOf, request, versionPlace, dataPlace, bodyLength}
-use Rattle.sysex.specs.Judging.{firstFailed, isKnown, isLong, hasProgram, dataTests, testsOf}
+use Rattle.sysex.specs.Judging.{firstFailed, isKnown, hasLength, hasProgram, dataTests, testsOf}
 
 -- where no test fails, the first holds and so do the rest
 held : (t : Bool) (number rest : ℕ) → (number ≡ 0 → ⊥) → cond t rest number ≡ 0 → (t ≡ true) × (rest ≡ 0)
@@ -33,7 +33,7 @@ unfolding testsOf
 right size body none =
     let p₁₁ = held (begins header body) 11 _ (λ e. omega arith) none in
     let p₁₂ = held (isKnown body) 12 _ (λ e. omega arith) (p₁₁ .1) in
-    let p₁₃ = held (isLong size body) 13 _ (λ e. omega arith) (p₁₂ .1) in
+    let p₁₃ = held (hasLength size body) 13 _ (λ e. omega arith) (p₁₂ .1) in
     let p₁₄ = held (hasProgram (typeOf body) (programOf body)) 14 _ (λ e. omega arith) (p₁₃ .1) in
     let rest : eqb (opcodeOf body) request ≡ false → firstFailed (dataTests (typeOf body) body) ≡ 0 = λ e. rw e at (p₁₄ .1) in
     let known = both (leb 7 (length body)) (leb (opcodeOf body) 1 && leb (typeOf body) 2) (p₁₂ .0) in

@@ -7,3 +7,4 @@ pub mod Understands
 pub mod InOrder
 pub mod Stored
 pub mod OneResult
+pub mod Lengths

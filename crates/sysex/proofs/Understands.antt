@@ -16,7 +16,7 @@ use Rattle.sysex.specs.declared.Settings.{Settings}
 use Rattle.sysex.specs.declared.Order.{Order}
 use Rattle.sysex.specs.declared.Order.the-variants.{Identify, Refused}
 use Rattle.sysex.specs.Forms.{header, begins, opcodeOf, typeOf, programOf, request, program, edit, versionPlace, dataPlace, dataCount, bodyLength, isIdentity, isOurs}
-use Rattle.sysex.specs.Judging.{Test, firstFailed, isKnown, isLong, hasProgram, dataTests, testsOf, orderOf, judgeOf}
+use Rattle.sysex.specs.Judging.{Test, firstFailed, isKnown, hasLength, hasProgram, dataTests, testsOf, orderOf, judgeOf}
 use Rattle.sysex.specs.Carrying.{HasData, Fits}
 use Rattle.sysex.specs.Formats.{Target, One, Edit, All, There, typeFor, ppFor, countFor, requestBody, sendOrder, storeOrder, IsDump, IsRequest, IsIdentity}
 use Rattle.sysex.proofs.Judged.{Right, right}
@@ -144,7 +144,7 @@ module _ (size : ℕ) (settings : Settings) (body : List ℕ) where
       let told : (n : ℕ) → 11 ≤ n → n ≤ 22 → P n = λ n lo hi _. (lo, hi) in
       by P (begins header body) _ _
       (λ _. by P (isKnown body) _ _
-      (λ _. by P (isLong size body) _ _
+      (λ _. by P (hasLength size body) _ _
       (λ _. by P (hasProgram (typeOf body) (programOf body)) _ _
       (λ _. by (λ (ts : List Test). P (firstFailed ts)) (eqb (opcodeOf body) request) [] (dataTests (typeOf body) body)
       (λ _ e. absurd (false≢true (sym e)))

@@ -38,20 +38,6 @@ answered type pp place count memory = sent (dumpOf type pp (partOf place count m
 abbrev pub stored : ℕ → ℕ → ℕ → List ℕ → List ℕ → Outcome
 stored type place count body memory = outcome Stored (putPart place count (join (drop (dataPlace type) body)) memory) []
 
--- what an order that was judged says of its body: a program is one of the 36, a dump's data are half bytes, as many as it takes
-abbrev pub HasData : ℕ → ℕ → List ℕ → Type 0
-HasData type count body = (length body ≡ dataPlace type + 2 * count) × (allHalves (drop (dataPlace type) body) ≡ true)
-
-abbrev pub Fits : ℕ → Order → List ℕ → Type 0
-Fits size (order.Identify cc) body = Unit {0}
-Fits size (order.SendProgram p) body = p ≤ 0x23
-Fits size order.SendEdit body = Unit {0}
-Fits size order.SendAll body = Unit {0}
-Fits size (order.StoreProgram p) body = (p ≤ 0x23) × HasData program size body
-Fits size order.StoreEdit body = HasData edit size body
-Fits size order.StoreAll body = HasData all (allSize size) body
-Fits size (order.Refused number) body = Unit {0}
-
 unfoldable pub orderDoes : ℕ → Settings → Order → List ℕ → List ℕ → Outcome
 orderDoes size settings (order.Identify cc) body memory = sent (identityOf settings cc) memory
 orderDoes size settings (order.SendProgram p) body memory = answered program (p ∷ []) (programPlace size p) size memory
@@ -88,3 +74,18 @@ carryOf size settings body memory reply =
     cond (ltb (length memory) (memorySize size)) (left (Refused 30) memory reply)
     (cond (ltb (length reply) (longest size)) (left (Refused 30) memory reply)
     (leaves (bodyDoes size settings body memory) reply))
+
+-- What the code's private functions ask of a body before they act on its order, and the judge gives: the program is one of the 36, a dump's
+-- data are half bytes, as many as it takes. No promise rests on it.
+abbrev pub HasData : ℕ → ℕ → List ℕ → Type 0
+HasData type count body = (length body ≡ dataPlace type + 2 * count) × (allHalves (drop (dataPlace type) body) ≡ true)
+
+abbrev pub Fits : ℕ → Order → List ℕ → Type 0
+Fits size (order.Identify cc) body = Unit {0}
+Fits size (order.SendProgram p) body = p ≤ 0x23
+Fits size order.SendEdit body = Unit {0}
+Fits size order.SendAll body = Unit {0}
+Fits size (order.StoreProgram p) body = (p ≤ 0x23) × HasData program size body
+Fits size order.StoreEdit body = HasData edit size body
+Fits size order.StoreAll body = HasData all (allSize size) body
+Fits size (order.Refused number) body = Unit {0}

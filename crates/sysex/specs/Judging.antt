@@ -28,8 +28,8 @@ abbrev pub isKnown : List ℕ → Bool
 isKnown body = leb 7 (length body) && (leb (opcodeOf body) 1 && leb (typeOf body) 2)
 
 -- 13 "wrong length"
-abbrev pub isLong : ℕ → List ℕ → Bool
-isLong size body = eqb (length body) (bodyLength size (opcodeOf body) (typeOf body))
+abbrev pub hasLength : ℕ → List ℕ → Bool
+hasLength size body = eqb (length body) (bodyLength size (opcodeOf body) (typeOf body))
 
 -- 14 "program above 0x23"
 unfoldable pub hasProgram : ℕ → ℕ → Bool
@@ -44,7 +44,7 @@ abbrev pub fieldTests : ℕ → ℕ → List ℕ → List Test
 fieldTests opcode type body = test 14 (hasProgram type (programOf body)) ∷ cond (eqb opcode request) [] (dataTests type body)
 
 abbrev pub formTests : ℕ → List ℕ → List Test
-formTests size body = test 12 (isKnown body) ∷ test 13 (isLong size body) ∷ fieldTests (opcodeOf body) (typeOf body) body
+formTests size body = test 12 (isKnown body) ∷ test 13 (hasLength size body) ∷ fieldTests (opcodeOf body) (typeOf body) body
 
 unfoldable pub testsOf : ℕ → List ℕ → List Test
 testsOf size body = test 11 (begins header body) ∷ formTests size body

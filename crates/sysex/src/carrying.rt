@@ -10,9 +10,13 @@ ghost use Rattle.sysex.specs.Memory.{memorySize, putPart};
 ghost use Rattle.sysex.specs.Carrying.{left, leaves, answered, Fits, orderDoes, carryOf};
 use crate::Answer;
 use crate::Order;
+use crate::PROGRAMS;
 use crate::Settings;
 use crate::answering;
 use crate::judging;
+
+// What memory holds: the programs, and the edit buffer.
+const PARTS: usize = PROGRAMS + 1;
 
 pub(crate) fn carried(
     body: &[u8],
@@ -24,10 +28,10 @@ pub(crate) fn carried(
     requires { ⌜ (1 ≤ size) × (size ≤ 255) ⌝ }
     ensures { λ r. ⌜ left r (now (memory .exit)) (now (reply .exit)) ≡ carryOf size settings (now (body .entry)) (now (memory .entry)) (now (reply .entry)) ⌝ }
 {
-    if memory.len() < 37 * size {
+    if memory.len() < PARTS * size {
         return Answer::Refused(30);
     }
-    if reply.len() < 8 + 2 * (36 * size) + 1 {
+    if reply.len() < 8 + 2 * (PROGRAMS * size) + 1 {
         return Answer::Refused(30);
     }
     let order = judging::judged(body, settings, size);
@@ -62,11 +66,11 @@ fn act(
                 reply,
             )
         }
-        Order::SendEdit => answer(judging::EDIT, &[], 36 * size, size, memory, reply),
-        Order::SendAll => answer(judging::ALL, &[], 0, 36 * size, memory, reply),
+        Order::SendEdit => answer(judging::EDIT, &[], PROGRAMS * size, size, memory, reply),
+        Order::SendAll => answer(judging::ALL, &[], 0, PROGRAMS * size, memory, reply),
         Order::StoreProgram(p) => store(judging::PROGRAM, p as usize * size, size, body, memory),
-        Order::StoreEdit => store(judging::EDIT, 36 * size, size, body, memory),
-        Order::StoreAll => store(judging::ALL, 0, 36 * size, body, memory),
+        Order::StoreEdit => store(judging::EDIT, PROGRAMS * size, size, body, memory),
+        Order::StoreAll => store(judging::ALL, 0, PROGRAMS * size, body, memory),
         Order::Refused(number) => Answer::Refused(number),
     }
 }
@@ -80,7 +84,7 @@ fn answer(
     memory: &[u8],
     reply: &mut [u8],
 ) -> Answer
-    requires { ⌜ (length (now pp) ≤ 1) × (count ≤ 9180) ⌝ }
+    requires { ⌜ (length (now pp) ≤ 1) × (count ≤ 36 * 255) ⌝ }
     requires { ⌜ place + count ≤ length (now memory) ⌝ }
     requires { ⌜ 2 * count + (9 + length (now pp)) ≤ length (now reply) ⌝ }
     ensures { λ r. ⌜ left r (now (memory .entry)) (now (reply .exit)) ≡ leaves (answered kind (now (pp .entry)) place count (now (memory .entry))) (now (reply .entry)) ⌝ }

@@ -1,10 +1,11 @@
 // The tests of a body, in their order.
 ghost use mathlib.Core.Path.{_≡_};
-ghost use Prim.Native.Nat.{_≤_, _+_};
+ghost use Prim.Native.Nat.{_≤_, _*_};
 ghost use lib.ListN.{length};
 ghost use Rattle.sysex.specs.Forms.{versionPlace, dataPlace, dataCount, bodyLength, isIdentity, isOurs};
 ghost use Rattle.sysex.specs.Judging.{firstFailed, testsOf, formTests, fieldTests, dataTests, hasProgram, orderOf, identifyOf, judgeOf};
 use crate::Order;
+use crate::PROGRAMS;
 use crate::Settings;
 use crate::bytes;
 
@@ -126,10 +127,10 @@ fn body_length(size: usize, opcode: u8, kind: u8) -> usize
 // How many half bytes a dump has.
 fn data_count(size: usize, kind: u8) -> usize
     requires { ⌜ size ≤ 255 ⌝ }
-    ensures { λ r. ⌜ (r ≡ dataCount size kind) × (r ≤ 18360) ⌝ }
+    ensures { λ r. ⌜ (r ≡ dataCount size kind) × (r ≤ 72 * 255) ⌝ }
 {
     if kind == ALL {
-        2 * (36 * size)
+        2 * (PROGRAMS * size)
     } else {
         2 * size
     }

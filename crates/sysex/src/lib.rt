@@ -12,8 +12,10 @@ ghost use Rattle.sysex.specs.Carrying.{left, carryOf};
 pub use numbers::length_of;
 pub use numbers::number_of;
 
-// The bytes of a program. All other lengths derive from it.
+// The bytes of a program, and how many programs there are. All other lengths derive from these.
 pub const PROGRAM: usize = 72;
+
+pub const PROGRAMS: usize = 36;
 
 pub struct Settings {
     pub channel: u8,
