@@ -11,7 +11,7 @@ use borrow.Author.Tests.{le-ltb, ne-eqb, ltb-true, ltb-false, eqb-false}
 use Rattle.ground.proofs.Tests.{by}
 use Rattle.controls.specs.declared.Row.{Row}
 use Rattle.controls.specs.declared.Change.the-variants as change
-use Rattle.controls.specs.declared.Reading.the-variants as reading
+use Rattle.controls.specs.Answers.{numberOf}
 use Rattle.controls.specs.Table.{programSize, chorus, rotary, rows, rowOf, selections, effectOf, selected}
 use Rattle.controls.specs.Applying.{Left, left, store, applyOf}
 use Rattle.controls.proofs.Bytes.{Outside, length-put, put-outside}
@@ -67,12 +67,8 @@ module _ (controller value : ℕ) (edit : List ℕ) where
       rw (le-ltb (length edit) programSize long, ne-eqb (r .width) 0 (λ e. omega arith), le-ltb (r .highest) value h, s)
 
   -- A refusal changes no byte.
-  pub refused-nothing : (number : ℕ) → applyOf controller value edit .answer ≡ change.Refused number → applyOf controller value edit .edit ≡ edit
-  refused-nothing number =
-      apply-cases (λ x. x .answer ≡ change.Refused number → x .edit ≡ edit)
-      (λ _ _. refl)
-      (λ _ _ _ _. refl)
-      (λ _ _ e. let z : _≡_ {A = ℕ} 0 1 = cc in absurd (omega arith))
+  pub refused-nothing : (numberOf (applyOf controller value edit .answer) ≡ 3 → ⊥) → applyOf controller value edit .edit ≡ edit
+  refused-nothing = apply-cases (λ x. (numberOf (x .answer) ≡ 3 → ⊥) → x .edit ≡ edit) (λ _ _. refl) (λ _ _ _ _. refl) (λ _ _ n. absurd (n refl))
 
   -- Only its row's bytes change.
   pub only-its-bytes : (k : ℕ) → Outside (rowOf controller .width) (rowOf controller .place) k

@@ -17,10 +17,6 @@ pub either : (a b : Bool) → cond a true b ≡ true → (a ≡ true) ⊎ (b ≡
 either true b h = inl refl
 either false b h = inr h
 
-pub conj : (a b : Bool) → a ≡ true → b ≡ true → (a && b) ≡ true
-conj true b p q = q
-conj false b p q = p
-
 -- a property of what a test picks, by the test's two answers
 pub by : {A : Type 0} (P : A → Type 0) (t : Bool) (x y : A) → (t ≡ true → P x) → (t ≡ false → P y) → P (cond t x y)
 by P true x y f g = f refl

@@ -6,7 +6,6 @@ use native.Mathlib.Omega.{arith}
 use lib.ListN.{length, drop, length-take, length-drop, take-append-drop}
 use Rattle.ground.proofs.Tests.{by}
 use Rattle.halves.specs.HalfBytes.{join}
-use Rattle.controls.specs.declared.Change.the-variants as change
 use Rattle.controls.specs.Table.{rowOf}
 use Rattle.controls.specs.Applying.{Left, store}
 use Rattle.controls.proofs.Controllers.{apply-cases, store-length}
