@@ -14,13 +14,14 @@ use Rattle.framing.specs.Receiver.{underOf, holdingOf, takesOne}
 use Rattle.framing.specs.Bytes.{stepOf}
 use Rattle.framing.proofs.Stands.{holding, stands-sound}
 use Rattle.controls.proofs.Controllers.{Flanger, RotaryMove, rotary-under-flanger}
+use Rattle.sockets.specs.Framer.{Channel}
 use Rattle.sysex.specs.declared.Settings.{Settings}
 use Rattle.sysex.specs.declared.Answer.the-variants.{Refused}
 use Rattle.sysex.specs.Memory.{memorySize, editPlace, partOf}
 use Rattle.sysex.specs.Forms.{longest}
 use Rattle.sysex.specs.Carrying.{outcome, refused}
 use Rattle.podbox.specs.Settings.{size, isValid}
-use Rattle.podbox.specs.Messages.{Channel, isHeard, isController, carry}
+use Rattle.podbox.specs.Messages.{isHeard, isController, carry}
 use Rattle.podbox.specs.Take.{took, limit, stepDoes, readyDoes, takeOf}
 use Rattle.podbox.proofs.Carried.{put-same}
 

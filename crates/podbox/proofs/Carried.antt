@@ -9,6 +9,7 @@ use Rattle.halves.specs.HalfBytes.{join}
 use Rattle.controls.specs.Table.{rowOf}
 use Rattle.controls.specs.Applying.{Left, store}
 use Rattle.controls.proofs.Controllers.{apply-cases, store-length}
+use Rattle.sockets.specs.Framer.{Message, SysEx, TooLong, Channel}
 use Rattle.sysex.specs.declared.Settings.{Settings}
 use Rattle.sysex.specs.declared.Order.{Order}
 use Rattle.sysex.specs.declared.Answer.the-variants.{Stored, Sent, Applied, Refused}
@@ -20,7 +21,7 @@ use Rattle.sysex.specs.Formats.{typeFor, placeFor, countFor}
 use Rattle.sysex.proofs.Stored.{put-length}
 use Rattle.sysex.proofs.Understands.{Meant, identity, asked, dumped, refused, meant}
 use Rattle.podbox.specs.Settings.{size}
-use Rattle.podbox.specs.Messages.{Message, SysEx, TooLong, Channel, isHeard, isController, answerOf, controllerDoes, carry}
+use Rattle.podbox.specs.Messages.{isHeard, isController, answerOf, controllerDoes, carry}
 use Rattle.podbox.proofs.WholeMessages.{store-does, send-does, dumpMessage, named-inside}
 
 -- an outcome: 1 and 3 keep the length of memory and send nothing, 2 sends and keeps memory, a refusal from 10 to 22 does nothing

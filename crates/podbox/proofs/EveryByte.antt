@@ -8,6 +8,7 @@ use lib.Dec.{ltb}
 use lib.ListN.{length, take, drop, set}
 use lib.Seq.{drop-append-seam}
 use borrow.Author.Tests.{ltb-false}
+use Rattle.ground.specs.Lists.{written}
 use Rattle.ground.proofs.Tests.{by}
 use Rattle.framing.specs.declared.Receiver.{Receiver}
 use Rattle.framing.specs.declared.Event.{Event}
@@ -15,15 +16,16 @@ use Rattle.framing.specs.declared.Event.the-variants as event
 use Rattle.framing.specs.Receiver.{soundOf}
 use Rattle.framing.specs.Bytes.{stepOf}
 use Rattle.framing.proofs.Places.{Belongs, belongs}
+use Rattle.sockets.specs.Framer.{SysEx, TooLong, Channel}
 use Rattle.sysex.specs.declared.Settings.{Settings}
 use Rattle.sysex.specs.declared.Answer.{Answer}
 use Rattle.sysex.specs.declared.Answer.the-variants.{Taken, Stored, Sent, Applied, Cut, Refused}
 use Rattle.sysex.specs.Memory.{memorySize}
 use Rattle.sysex.specs.Forms.{longest}
 use Rattle.sysex.specs.Numbers.{numberOf, lengthOf}
-use Rattle.sysex.specs.Carrying.{Outcome, written}
+use Rattle.sysex.specs.Carrying.{Outcome}
 use Rattle.podbox.specs.Settings.{size, isValid}
-use Rattle.podbox.specs.Messages.{SysEx, TooLong, Channel, carry}
+use Rattle.podbox.specs.Messages.{carry}
 use Rattle.podbox.specs.Take.{TookByte, took, limit, carried, eventDoes, stepDoes, readyDoes, takeOf}
 use Rattle.podbox.proofs.Carried.{Tame, stores, sends, applies, refuses, carry-tame}
 

@@ -8,20 +8,21 @@ use mathlib.Core.Path.{_≡_, ap, _∙_}
 use native.Mathlib.Omega.{arith}
 use lib.Dec.{ltb}
 use lib.ListN.{length, drop}
-use Rattle.ground.specs.Lists.{allAtMost}
+use Rattle.ground.specs.Lists.{allAtMost, written}
 use Rattle.ground.proofs.Tests.{by}
 use Rattle.halves.specs.HalfBytes.{join}
+use Rattle.sockets.specs.Framer.{SysEx}
 use Rattle.sysex.specs.declared.Settings.{Settings}
 use Rattle.sysex.specs.declared.Order.{Order}
 use Rattle.sysex.specs.declared.Answer.the-variants.{Stored, Sent, Refused}
 use Rattle.sysex.specs.Memory.{memorySize, partOf, putPart}
 use Rattle.sysex.specs.Forms.{longest, dataPlace, identityOf, isOurs}
 use Rattle.sysex.specs.Judging.{judgeOf}
-use Rattle.sysex.specs.Carrying.{Outcome, Left, left, leaves, written, orderDoes}
+use Rattle.sysex.specs.Carrying.{Outcome, Left, left, leaves, orderDoes}
 use Rattle.sysex.specs.Formats.{Target, There, typeFor, placeFor, countFor}
 use Rattle.sysex.proofs.Understands.{Meant, identity, asked, dumped, refused, meant}
 use Rattle.podbox.specs.Settings.{size, isValid}
-use Rattle.podbox.specs.Messages.{SysEx, carry}
+use Rattle.podbox.specs.Messages.{carry}
 use Rattle.podbox.specs.Whole.{isFramed, bodyOf, wholeOf}
 use Rattle.podbox.proofs.Frames.{frame-body, framed-is}
 use Rattle.podbox.proofs.WholeMessages.{store-does, send-does, dumpMessage, requestMessage, identityMessage, handed}

@@ -6,4 +6,5 @@ pub mod Refusals
 pub mod Carried
 pub mod EveryByte
 pub mod Byte48
+pub mod Sockets
 pub mod OneResult

@@ -6,6 +6,7 @@ use mathlib.Core.Path.{_≡_, refl, sym, ap, _∙_}
 use native.Mathlib.Omega.{arith}
 use lib.Dec.{ltb}
 use lib.ListN.{length}
+use Rattle.sockets.specs.Framer.{SysEx}
 use Rattle.sysex.specs.declared.Settings.{Settings}
 use Rattle.sysex.specs.declared.Order.{Order}
 use Rattle.sysex.specs.declared.Answer.{Answer}
@@ -17,7 +18,7 @@ use Rattle.sysex.specs.Judging.{Test, test}
 use Rattle.sysex.specs.Carrying.{Outcome, refused, Left, left, leaves, orderDoes}
 use Rattle.sysex.proofs.InOrder.{FirstToFail, guard, guard-refused, guard-exactly, guard-map, judgeTests, passedOrder, judged-guard, passed-not-refused}
 use Rattle.podbox.specs.Settings.{size, isValid}
-use Rattle.podbox.specs.Messages.{SysEx, carry}
+use Rattle.podbox.specs.Messages.{carry}
 use Rattle.podbox.specs.Whole.{isFramed, bodyOf, wholeOf}
 
 -- the tests of a call, in their order: 30, 30, 32, 10, 11, and those of the body

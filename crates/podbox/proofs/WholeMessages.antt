@@ -6,7 +6,7 @@ use mathlib.Core.Path.{_≡_, refl, ap, _∙_}
 use native.Mathlib.Omega.{arith}
 use lib.ListN.{length, drop, length-append}
 use borrow.Author.Tests.{le-ltb, le-leb}
-use Rattle.ground.specs.Lists.{allAtMost}
+use Rattle.ground.specs.Lists.{allAtMost, written}
 use Rattle.ground.proofs.AtMost.{at-most-more}
 use Rattle.halves.specs.HalfBytes.{split, join}
 use Rattle.halves.proofs.Laws.{length-split, join-split, split-halves}
@@ -15,7 +15,7 @@ use Rattle.sysex.specs.declared.Answer.the-variants.{Stored, Sent}
 use Rattle.sysex.specs.Memory.{memorySize, partOf, putPart}
 use Rattle.sysex.specs.Forms.{longest, dataPlace, identityOf, isOurs}
 use Rattle.sysex.specs.Judging.{judgeOf}
-use Rattle.sysex.specs.Carrying.{Left, left, leaves, written, orderDoes}
+use Rattle.sysex.specs.Carrying.{Left, left, leaves, orderDoes}
 use Rattle.sysex.specs.Formats.{Target, One, Edit, All, There, typeFor, ppFor, placeFor, countFor, requestBody, dumpBody, identityBody, sendOrder, storeOrder}
 use Rattle.sysex.proofs.Accepts.{dump-judged, request-judged, identity-judged}
 use Rattle.sysex.proofs.Stored.{part-put, put-length}

@@ -6,18 +6,13 @@ use lib.Dec.{eqb}
 use Rattle.controls.specs.declared.Change.{Change}
 use Rattle.controls.specs.declared.Change.the-variants as change
 use Rattle.controls.specs.Applying.{applyOf}
+use Rattle.sockets.specs.Framer.{Message, SysEx, TooLong, Channel}
 use Rattle.sysex.specs.declared.Settings.{Settings}
 use Rattle.sysex.specs.declared.Answer.{Answer}
 use Rattle.sysex.specs.declared.Answer.the-variants.{Applied, Refused}
 use Rattle.sysex.specs.Memory.{editPlace, partOf, putPart}
 use Rattle.sysex.specs.Carrying.{Outcome, outcome, refused, bodyDoes}
 use Rattle.podbox.specs.Settings.{size}
-
--- a SysEx is its body, F0 and the bytes after it, without F7; of one that is too long nothing is known
-pub data Message : Type 0 where
-  SysEx : List ℕ → Message
-  TooLong : Message
-  Channel : ℕ → ℕ → ℕ → Message
 
 -- 20 "channel message on another channel, not omni"
 unfoldable pub isHeard : Settings → ℕ → Bool

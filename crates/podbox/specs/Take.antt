@@ -4,20 +4,22 @@ use mathlib.Core.Bool.{cond}
 use mathlib.Core.List.{List}
 use lib.Dec.{ltb}
 use lib.ListN.{length, take, set}
+use Rattle.ground.specs.Lists.{written}
 use Rattle.framing.specs.declared.Receiver.{Receiver}
 use Rattle.framing.specs.declared.Event.{Event}
 use Rattle.framing.specs.declared.Event.the-variants as event
 use Rattle.framing.specs.declared.Stepped.{Stepped}
 use Rattle.framing.specs.Receiver.{soundOf}
 use Rattle.framing.specs.Bytes.{stepOf}
+use Rattle.sockets.specs.Framer.{SysEx, TooLong, Channel}
 use Rattle.sysex.specs.declared.Settings.{Settings}
 use Rattle.sysex.specs.declared.Answer.{Answer}
 use Rattle.sysex.specs.declared.Answer.the-variants.{Taken, Cut, Refused}
 use Rattle.sysex.specs.Memory.{memorySize}
 use Rattle.sysex.specs.Forms.{longest}
-use Rattle.sysex.specs.Carrying.{Outcome, written}
+use Rattle.sysex.specs.Carrying.{Outcome}
 use Rattle.podbox.specs.Settings.{size, isValid}
-use Rattle.podbox.specs.Messages.{SysEx, TooLong, Channel, carry}
+use Rattle.podbox.specs.Messages.{carry}
 
 -- all that stands at exit of a byte call
 pub record TookByte : Type 0 where

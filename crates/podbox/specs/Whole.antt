@@ -5,13 +5,14 @@ use mathlib.Core.List.{List}
 use lib.Dec.{eqb, leb, ltb}
 use lib.ListN.{length, getD, take, drop}
 use Rattle.ground.specs.Lists.{allAtMost}
+use Rattle.sockets.specs.Framer.{SysEx}
 use Rattle.sysex.specs.declared.Settings.{Settings}
 use Rattle.sysex.specs.declared.Answer.the-variants.{Refused}
 use Rattle.sysex.specs.Memory.{memorySize}
 use Rattle.sysex.specs.Forms.{longest}
 use Rattle.sysex.specs.Carrying.{Outcome, refused, Left, left, leaves}
 use Rattle.podbox.specs.Settings.{size, isValid}
-use Rattle.podbox.specs.Messages.{SysEx, carry}
+use Rattle.podbox.specs.Messages.{carry}
 
 -- "11 if it does not begin with F0, end with F7 as another byte, or has a byte above 0x7F between"
 unfoldable pub isFramed : List ℕ → Bool

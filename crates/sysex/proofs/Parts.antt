@@ -6,13 +6,14 @@ use native.Mathlib.Nat.{add-sub-cancel-left, mul-le-mul-right}
 use native.Mathlib.Omega.{arith}
 use lib.ListN.{length, take, drop}
 use borrow.Author.Tests.{le-ltb}
+use Rattle.ground.specs.Lists.{written}
 use Rattle.ground.proofs.Lists.{to-end}
 use Rattle.halves.specs.HalfBytes.{join}
 use Rattle.sysex.specs.declared.Settings.{Settings}
 use Rattle.sysex.specs.declared.Answer.the-variants.{Sent}
 use Rattle.sysex.specs.Memory.{memorySize, partOf, putPart}
 use Rattle.sysex.specs.Forms.{longest, dumpOf}
-use Rattle.sysex.specs.Carrying.{left, written, leaves, answered, bodyDoes, carryOf}
+use Rattle.sysex.specs.Carrying.{left, leaves, answered, bodyDoes, carryOf}
 
 pub answered-by : (kind place count n : ℕ) (pp memory reply part x : List ℕ) → n ≡ length (dumpOf kind pp part) → x ≡ written (dumpOf kind pp part) reply
     → part ≡ partOf place count memory → left (Sent n) memory x ≡ leaves (answered kind pp place count memory) reply

@@ -6,12 +6,12 @@ use native.Mathlib.Nat.{add-sub-cancel-left}
 use native.Mathlib.Omega.{arith}
 use lib.ListN.{length, take, drop, getD, set, length-append}
 use lib.Seq.{take-at, drop-at, drop-drop}
+use Rattle.ground.specs.Lists.{written}
 use Rattle.ground.proofs.Lists.{drop-one, written as one-written}
 use Rattle.halves.specs.HalfBytes.{split}
 use Rattle.halves.proofs.Laws.{length-split}
 use Rattle.sysex.specs.Memory.{putPart}
 use Rattle.sysex.specs.Forms.{header, dumpOf}
-use Rattle.sysex.specs.Carrying.{written}
 
 -- what is copied, and then what is left to copy, is the whole
 pub copy-turn : (to from : List ℕ) (i : ℕ) → i < length to → i < length from → take i to ++ drop i from ≡ from

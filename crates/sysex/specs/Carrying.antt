@@ -2,9 +2,10 @@
 use Prim.Native.Nat.{ℕ, _+_, _*_, _≤_}
 use mathlib.Core.Bool.{true, cond}
 use mathlib.Core.Path.{_≡_}
-use mathlib.Core.List.{List, [], _∷_, _++_}
+use mathlib.Core.List.{List, [], _∷_}
 use lib.Dec.{ltb}
 use lib.ListN.{length, drop}
+use Rattle.ground.specs.Lists.{written}
 use Rattle.halves.specs.HalfBytes.{join, allHalves}
 use Rattle.sysex.specs.declared.Settings.{Settings}
 use Rattle.sysex.specs.declared.Order.{Order}
@@ -60,10 +61,6 @@ pub record Left : Type 0 where
 
 abbrev pub left : Answer → List ℕ → List ℕ → Left
 left answer memory reply = record { answer = answer; memory = memory; reply = reply }
-
--- "first bytes of the reply buffer": no byte after them changes
-abbrev pub written : List ℕ → List ℕ → List ℕ
-written bytes reply = bytes ++ drop (length bytes) reply
 
 abbrev pub leaves : Outcome → List ℕ → Left
 leaves o reply = left (o .answer) (o .memory) (written (o .bytes) reply)

@@ -1,0 +1,9 @@
+pub mod Agree
+pub mod Start
+pub mod Alone
+pub mod Contract
+pub mod Carried
+pub mod Whole
+pub mod Live
+pub mod Calm
+pub mod Cases

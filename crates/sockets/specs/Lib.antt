@@ -1,0 +1,8 @@
+pub mod Framer
+pub mod Calls
+pub mod Box
+pub mod Promise
+pub mod History
+pub mod Demand
+pub mod Ready
+pub mod Calm
