@@ -7,4 +7,5 @@ pub mod Carried
 pub mod EveryByte
 pub mod Byte48
 pub mod Sockets
+pub mod Fed
 pub mod OneResult

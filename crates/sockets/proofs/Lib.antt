@@ -4,6 +4,7 @@ pub mod Alone
 pub mod Contract
 pub mod Carried
 pub mod Whole
+pub mod Fed
 pub mod Live
 pub mod Calm
 pub mod Cases

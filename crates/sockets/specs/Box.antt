@@ -110,6 +110,11 @@ module _ (rules : Rules) where
   abbrev pub finishedBy : (Socket → Framer) → CallsOf rules → CallsOf rules → FinishesOf rules
   finishedBy start before calls = finishedAfter (rules .limit) (rules .hands) start before calls
 
+  -- 0 "byte taken, nothing finished", said to each of these bytes
+  abbrev pub taken : List ℕ → AnswersOf rules
+  taken [] = []
+  taken (b ∷ bytes) = record { code = rules .plain 0; sent = [] } ∷ taken bytes
+
   -- "carrying out the finished messages whole, one at a time": what is stored after them, and what each answered
   abbrev pub storeAfter : rules .Store → FinishesOf rules → rules .Store
   storeAfter store [] = store

@@ -35,6 +35,11 @@ module _ {Given : Type 0} where
   bytesOf s (Byte t b ∷ calls) = ifSame s t (b ∷ bytesOf s calls) (bytesOf s calls)
   bytesOf s (Direct x ∷ calls) = bytesOf s calls
 
+  -- bytes that all arrive at one socket
+  abbrev pub feed : Socket → List ℕ → List (Call Given)
+  feed s [] = []
+  feed s (b ∷ bytes) = Byte s b ∷ feed s bytes
+
   -- what a byte does after the calls before it: it goes by its own socket's earlier bytes
   abbrev pub happens : ℕ → (Socket → Framer) → List (Call Given) → Socket → ℕ → Happening
   happens limit start before s b = hears limit (stands limit (start s) (bytesOf s before)) b .what

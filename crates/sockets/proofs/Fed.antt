@@ -1,0 +1,69 @@
+-- A framed message that is fed to a fresh socket, byte by byte, is finished by its F7 and does what it does then; no byte before does anything.
+use Prim.Native.Nat.{ℕ}
+use mathlib.Core.Bool.{true}
+use mathlib.Core.Path.{_≡_, refl, ap, _∙_}
+use mathlib.Core.List.{List, [], _∷_, _++_, append-nil, append-assoc}
+use native.Mathlib.Omega.{arith}
+use lib.Dec.{leb}
+use borrow.Author.Tests.{leb-true, lt-leb, lt-ltb}
+use Rattle.ground.specs.Lists.{allAtMost}
+use Rattle.ground.proofs.Tests.{both}
+use Rattle.sockets.specs.Framer.{Happening, Nothing, Framer, Idle, Inside, hear, closed, hears}
+use Rattle.sockets.specs.Calls.{Socket, S0, S1, Byte, FromSocket, ifSame, stands, bytesOf, feed, finishing, finishes}
+use Rattle.sockets.specs.Box.{Rules, CallsOf, AnswersOf, Lawful, answerOf, finishedBy, taken, effect}
+use Rattle.sockets.specs.History.{WorldOf, History, answersAlong}
+use Rattle.sockets.specs.Demand.{Fresh}
+use Rattle.sockets.proofs.Alone.{stands-byte}
+use Rattle.sockets.proofs.Whole.{demand3}
+
+-- "Bytes below 0x80 are added."
+adds : (limit : ℕ) (bytes : List ℕ) (b : ℕ) → leb b 0x7F ≡ true → hears limit (Inside bytes) b ≡ hear Nothing (Inside (bytes ++ b ∷ []))
+unfolding hears
+adds limit bytes b low = let h = leb-true b 0x7F low in rw (lt-leb 0xF8 b (omega arith), lt-ltb b 0x80 (omega arith))
+
+itself : {A : Type 0} (s : Socket) (x y : A) → ifSame s s x y ≡ x
+itself S0 x y = refl
+itself S1 x y = refl
+
+module _ (rules : Rules) (start : Socket → Framer) (s : Socket) (store : rules .Store) where
+  abbrev At : CallsOf rules → Framer
+  At before = stands (rules .limit) (start s) (bytesOf s before)
+
+  moved : (before : CallsOf rules) (b : ℕ) → At (before ++ (Byte s b ∷ [])) ≡ hears (rules .limit) (At before) b .next
+  moved before b = stands-byte (rules .limit) (start s) s s b before ∙ itself s _ _
+
+  -- what calls finish and what they answer, where the last one finishes a message and the others, one for each of these bytes, none
+  abbrev Finishes : CallsOf rules → CallsOf rules → List ℕ → List ℕ → Type 0
+  Finishes before calls bytes body =
+      let f = FromSocket s (closed (rules .limit) body) in
+      (finishedBy rules start before calls ≡ f ∷ [])
+      × (answersAlong rules start store before calls ≡ taken rules bytes ++ (answerOf (rules .carry store f) ∷ []))
+
+  rest-fed : (before : CallsOf rules) (body rest : List ℕ) → At before ≡ Inside body → allAtMost 0x7F rest ≡ true
+      → Finishes before (feed s (rest ++ (0xF7 ∷ []))) rest (body ++ rest)
+  unfolding finishes hears
+  rest-fed before body [] e low =
+      rw (append-nil body) (
+        ap (λ (at : Framer). finishing s (hears (rules .limit) at 0xF7 .what) ++ []) e,
+        ap (λ (at : Framer). answerOf (effect rules store s (hears (rules .limit) at 0xF7 .what)) ∷ []) e,
+      )
+  rest-fed before body (b ∷ rest) e low =
+      let p = both (leb b 0x7F) (allAtMost 0x7F rest) low in
+      let a = adds (rules .limit) body b (p .0) in
+      let next = rest-fed (before ++ (Byte s b ∷ [])) (body ++ (b ∷ [])) rest (moved before b ∙ (rw (e, a))) (p .1) in
+      let n = rw (append-assoc body (b ∷ []) rest) at next in
+      let what : hears (rules .limit) (At before) b .what ≡ Nothing = rw (e, a) in (
+        ap (λ (h : Happening). finishing s h ++ finishedBy rules start (before ++ (Byte s b ∷ [])) (feed s (rest ++ (0xF7 ∷ [])))) what ∙ n .0,
+        ap (λ (h : Happening). let o = effect rules store s h in answerOf o ∷ answersAlong rules start (o .store) (before ++ (Byte s b ∷ [])) (feed s (rest ++ (0xF7 ∷ [])))) what
+            ∙ ap (λ (l : AnswersOf rules). record { code = rules .plain 0; sent = [] } ∷ l) (n .1),
+      )
+
+module _ (rules : Rules) (w v : WorldOf rules) (s : Socket) (rest : List ℕ) (answers : AnswersOf rules) where
+  pub framed-fed : Lawful rules → Fresh rules w → allAtMost 0x7F rest ≡ true → History rules w (feed s (0xF0 ∷ (rest ++ (0xF7 ∷ [])))) v answers
+      → (let o = rules .carry (w .store) (FromSocket s (closed (rules .limit) (0xF0 ∷ rest))) in
+      (v .store ≡ o .store) × (answers ≡ taken rules (0xF0 ∷ rest) ++ (answerOf o ∷ [])))
+  unfolding finishes hears
+  framed-fed law new low history =
+      let d = demand3 rules w v (feed s (0xF0 ∷ (rest ++ (0xF7 ∷ [])))) answers law new history in
+      let n = rest-fed rules (λ t. Idle) s (w .store) (Byte s 0xF0 ∷ []) (0xF0 ∷ []) rest (moved rules (λ t. Idle) s (w .store) [] 0xF0) low in
+      (d .store ∙ rw (n .0), d .each ∙ ap (λ (l : AnswersOf rules). record { code = rules .plain 0; sent = [] } ∷ l) (n .1))
