@@ -60,10 +60,10 @@ bytes : ℕ → ℕ → List ℕ → List ℕ
 bytes place count edit = take count (drop place edit)
 
 -- a fresh box, set as the listing program's: the number of each byte of a run on socket 0, and of a message that is handed over whole
-settings : Settings
+unfoldable pub settings : Settings
 settings = record { channel = 0; omni = 0; revision0 = 0x30; revision1 = 0x31; revision2 = 0x30; revision3 = 0x30 }
 
-zeros : ℕ → List ℕ
+unfoldable pub zeros : ℕ → List ℕ
 zeros count = replicate count 0
 
 run : List ℕ → Receiver → List ℕ → List ℕ → List ℕ → List ℕ

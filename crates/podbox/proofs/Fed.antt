@@ -1,10 +1,10 @@
 -- A message handed over whole and the same message fed to a fresh socket, byte by byte, get the same answer and leave the same.
 use Prim.Native.Nat.{ℕ, _+_}
-use mathlib.Core.Bool.{Bool, true, false}
+use mathlib.Core.Bool.{Bool, true, false, cond}
 use mathlib.Core.List.{List, [], _∷_, _++_}
 use mathlib.Core.Path.{_≡_, refl, sym, ap, _∙_}
 use native.Mathlib.Omega.{arith}
-use lib.Dec.{leb}
+use lib.Dec.{leb, ltb}
 use lib.ListN.{length, length-append}
 use borrow.Author.Tests.{leb-true, leb-false, le-ltb, lt-ltb}
 use Rattle.ground.specs.Lists.{allAtMost}
@@ -16,6 +16,7 @@ use Rattle.sockets.specs.Demand.{Fresh}
 use Rattle.sockets.proofs.Fed.{framed-fed}
 use Rattle.sysex.specs.declared.Settings.{Settings}
 use Rattle.sysex.specs.Forms.{longest}
+use Rattle.sysex.specs.Carrying.{refused}
 use Rattle.podbox.specs.Settings.{size}
 use Rattle.podbox.specs.Messages.{carry}
 use Rattle.podbox.specs.Whole.{isFramed, bodyOf, messageDoes}
@@ -40,6 +41,11 @@ module _ (settings : Settings) where
       go false h =
           let many = leb-false (length (0xF0 ∷ rest)) limit h in
           rw (h, lt-ltb (longest size) (length (frame rest)) (omega (arith, long)))
+
+  -- A message that is not framed is 10 or 11 when it is handed over; on a socket its bytes finish what they finish (`box-demand3`).
+  pub not-framed : (message memory : List ℕ) → isFramed message ≡ false
+      → messageDoes settings message memory ≡ cond (ltb (longest size) (length message)) (refused 10 memory) (refused 11 memory)
+  not-framed message memory e = rw e
 
   module _ (w v : WorldOf (boxRules settings)) (s : Socket) (answers : AnswersOf (boxRules settings)) where
     -- Whole equals byte by byte, for every message F0 .. F7 with nothing above 0x7F between, of any length: each byte before F7 is
