@@ -23,7 +23,7 @@ use Rattle.sysex.specs.Carrying.{orderDoes}
 use Rattle.podbox.specs.Settings.{isValid}
 use Rattle.podbox.specs.Messages.{isHeard, isController, carry}
 use Rattle.podbox.specs.Take.{TookByte, stepDoes, readyDoes, takeOf}
-use Rattle.podbox.specs.Box.{boxRules}
+use Rattle.podbox.specs.Box.{State, stateOf, boxRules}
 use Rattle.podbox.proofs.Sockets.{box-demand3}
 use Rattle.cases.proofs.Marked.{settings, zeros}
 
@@ -86,11 +86,11 @@ module _ (box : Settings → ℕ → Receiver → ℕ → List ℕ → List ℕ 
       absurd (omega (arith, e, b))
 
 -- a box that acts on the first finished message and only numbers the later ones: after controller 12 at 27 and at 5, byte 8 is 5
-pub first-alone : (w v : WorldOf (boxRules settings)) (answers : AnswersOf (boxRules settings)) → Fresh (boxRules settings) w → w .store ≡ memory
-    → History (boxRules settings) w (feed S0 (0xB0 ∷ 12 ∷ 27 ∷ 12 ∷ 5 ∷ [])) v answers → v .store ≡ carry settings memory (Channel 0xB0 12 27) .memory → ⊥
+pub first-alone : (w v : WorldOf (boxRules settings)) (answers : AnswersOf (boxRules settings)) → Fresh (boxRules settings) w → w .store ≡ stateOf memory
+    → History (boxRules settings) w (feed S0 (0xB0 ∷ 12 ∷ 27 ∷ 12 ∷ 5 ∷ [])) v answers → v .store ≡ stateOf (carry settings memory (Channel 0xB0 12 27) .memory) → ⊥
 unfolding settings zeros hears finishes takesOne isHeard isController carry applyOf store rowOf rows numberBy nextBy effectOf selections selected
 first-alone w v answers new e history bad =
     let d = box-demand3 settings w v (feed S0 (0xB0 ∷ 12 ∷ 27 ∷ 12 ∷ 5 ∷ [])) answers new history .store in
-    let five : model (v .store) ≡ 5 = ap (λ (m : List ℕ). model m) (rw e at d) in
-    let first : model (v .store) ≡ 27 = ap (λ (m : List ℕ). model m) bad in
+    let five : model (v .store .memory) ≡ 5 = ap (λ (state : State). model (state .memory)) (rw e at d) in
+    let first : model (v .store .memory) ≡ 27 = ap (λ (state : State). model (state .memory)) bad in
     absurd (omega (arith, five, first))

@@ -51,12 +51,12 @@ module _ (settings : Settings) where
     -- Whole equals byte by byte, for every message F0 .. F7 with nothing above 0x7F between, of any length: each byte before F7 is
     -- taken, and F7 gets the answer, leaves the memory and sends the bytes of the same message handed over whole.
     pub whole-fed : (message : List ℕ) → isFramed message ≡ true → Fresh (boxRules settings) w → History (boxRules settings) w (feed s message) v answers
-        → (let o = outcomeOf (messageDoes settings message (w .store)) in
+        → (let o = outcomeOf (messageDoes settings message (w .store .memory)) in
         (v .store ≡ o .store) × (answers ≡ taken (boxRules settings) (bodyOf message) ++ (answerOf o ∷ [])))
     whole-fed message framed new history =
         let f = framed-is message framed in
         let rest = f .0 in
         let history′ = rw (f .1) at history in
-        let d = rw (closed-does rest (w .store) (f .2)) at (framed-fed (boxRules settings) w v s rest answers (lawful settings) new (f .2) history′) in
-        let last = answerOf (outcomeOf (messageDoes settings (frame rest) (w .store))) in
+        let d = rw (closed-does rest (w .store .memory) (f .2)) at (framed-fed (boxRules settings) w v s rest answers (lawful settings) new (f .2) history′) in
+        let last = answerOf (outcomeOf (messageDoes settings (frame rest) (w .store .memory))) in
         rw (f .1) (d .0, d .1 ∙ ap (λ (l : List ℕ). taken (boxRules settings) l ++ (last ∷ [])) (sym (frame-body rest)))

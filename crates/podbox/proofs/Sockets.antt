@@ -35,7 +35,7 @@ use Rattle.podbox.specs.Settings.{size, isValid}
 use Rattle.podbox.specs.Messages.{carry}
 use Rattle.podbox.specs.Whole.{isFramed, bodyOf, messageDoes, wholeOf}
 use Rattle.podbox.specs.Take.{TookByte, took, limit, eventDoes, stepDoes, readyDoes, takeOf}
-use Rattle.podbox.specs.Box.{plainAnswer, refusalOf, refusalWhole, boxRules, lentOf, doneOf, lentWhole, doneWhole}
+use Rattle.podbox.specs.Box.{State, stateOf, plainAnswer, refusalOf, refusalWhole, boxRules, lentOf, doneOf, lentWhole, doneWhole}
 use Rattle.podbox.proofs.Carried.{Tame, stores, sends, applies, refuses, carry-tame}
 
 -- what an outcome does not do: it neither grows memory, nor tells a length that it did not send, nor turns a call away
@@ -71,9 +71,9 @@ module _ (settings : Settings) where
       by (Tame memory) (ltb (longest size) (length message)) _ _ (λ _. refuses 10 (omega arith) (omega arith))
       (λ _. by (Tame memory) (isFramed message) _ _ (λ _. carry-tame settings memory m (SysEx (bodyOf message))) (λ _. refuses 11 (omega arith) (omega arith)))
 
-  named : (socket : ℕ) (entry : Lent (List ℕ)) → Named (refusalOf settings socket entry)
+  named : (socket : ℕ) (entry : Lent State) → Named (refusalOf settings socket entry)
   named socket entry =
-      by Named (ltb (length (entry .store)) (memorySize size)) _ _ (λ _ h. absurd (true≢false h))
+      by Named (ltb (length (entry .store .memory)) (memorySize size)) _ _ (λ _ h. absurd (true≢false h))
       (λ _. by Named (ltb (length (entry .buffer)) (longest size)) _ _ (λ _ h. absurd (true≢false h))
       (λ _. by Named (ltb (length (entry .reply)) (longest size)) _ _ (λ _ h. absurd (true≢false h))
       (λ _. by Named (ltb 1 socket) _ _ (λ _ h. absurd (true≢false h))
@@ -81,26 +81,27 @@ module _ (settings : Settings) where
       (λ _. by Named (isValid settings) _ _ (λ _ h. refl) (λ _ h. absurd (true≢false h)))
       (λ _ h. absurd (true≢false h))))))
 
-  named-whole : (entry : LentDirect (List ℕ)) → Named (refusalWhole settings entry)
+  named-whole : (entry : LentDirect State) → Named (refusalWhole settings entry)
   named-whole entry =
-      by Named (ltb (length (entry .store)) (memorySize size)) _ _ (λ _ h. absurd (true≢false h))
+      by Named (ltb (length (entry .store .memory)) (memorySize size)) _ _ (λ _ h. absurd (true≢false h))
       (λ _. by Named (ltb (length (entry .out)) (longest size)) _ _ (λ _ h. absurd (true≢false h))
       (λ _. by Named (isValid settings) _ _ (λ _ h. refl) (λ _ h. absurd (true≢false h))))
 
-  enough : (socket : ℕ) (entry : Lent (List ℕ)) → Enough (entry .store) (entry .buffer) (refusalOf settings socket entry)
+  enough : (socket : ℕ) (entry : Lent State) → Enough (entry .store .memory) (entry .buffer) (refusalOf settings socket entry)
   enough socket entry =
-      let P = Enough (entry .store) (entry .buffer) in
-      by P (ltb (length (entry .store)) (memorySize size)) _ _ (λ _ h. absurd (omega arith))
+      let P = Enough (entry .store .memory) (entry .buffer) in
+      by P (ltb (length (entry .store .memory)) (memorySize size)) _ _ (λ _ h. absurd (omega arith))
       (λ m. by P (ltb (length (entry .buffer)) (longest size)) _ _ (λ _ h. absurd (omega arith)) (λ b h. (ltb-false _ _ b, ltb-false _ _ m)))
 
-  enough-whole : (entry : LentDirect (List ℕ)) → refusalWhole settings entry ≡ 0 → memorySize size ≤ length (entry .store)
+  enough-whole : (entry : LentDirect State) → refusalWhole settings entry ≡ 0 → memorySize size ≤ length (entry .store .memory)
   enough-whole entry =
-      by (λ (number : ℕ). number ≡ 0 → memorySize size ≤ length (entry .store)) (ltb (length (entry .store)) (memorySize size)) _ _
+      by (λ (number : ℕ). number ≡ 0 → memorySize size ≤ length (entry .store .memory)) (ltb (length (entry .store .memory)) (memorySize size)) _ _
       (λ _ h. absurd (omega arith)) (λ m h. ltb-false _ _ m)
 
-  kept : (memory : List ℕ) (f : Finish (List ℕ)) → memorySize size ≤ length memory → memorySize size ≤ length (boxRules settings .carry memory f .store)
-  kept memory (FromSocket s m) g = omega (arith, tame-length (carry-tame settings memory g m))
-  kept memory (FromDirect message) g = omega (arith, tame-length (message-tame message memory g))
+  kept : (state : State) (f : Finish (List ℕ)) → memorySize size ≤ length (state .memory)
+      → memorySize size ≤ length (boxRules settings .carry state f .store .memory)
+  kept state (FromSocket s m) g = omega (arith, tame-length (carry-tame settings (state .memory) g m))
+  kept state (FromDirect message) g = omega (arith, tame-length (message-tame message (state .memory) g))
 
   pub lawful : Lawful (boxRules settings)
   lawful = record {
@@ -112,16 +113,16 @@ module _ (settings : Settings) where
     kept = kept;
     quiet = (refl, refl);
     cut = (refl, refl);
-    told = λ memory s m g. tame-told (carry-tame settings memory g m);
-    toldDirect = λ memory message g. tame-told (message-tame message memory g);
-    passes = λ memory message g. refl;
+    told = λ state s m g. tame-told (carry-tame settings (state .memory) g m);
+    toldDirect = λ state message g. tame-told (message-tame message (state .memory) g);
+    passes = λ state message g. refl;
   }
 
   -- what the event of a byte does, as the laws of two sockets say it
   event-done : (s : Socket) (e : Event) (next r : Receiver) (byte : ℕ) (memory receive reply : List ℕ)
       → doneOf (eventDoes settings e next byte memory receive reply)
       ≡ takes (boxRules settings) byte (lentOf r memory receive reply) (record { receiver = next; event = e })
-      (effect (boxRules settings) memory s (happeningOf e receive))
+      (effect (boxRules settings) (stateOf memory) s (happeningOf e receive))
   event-done s event.Nothing next r byte memory receive reply = refl
   event-done s (event.Collect place) next r byte memory receive reply = refl
   event-done s event.Cut next r byte memory receive reply = refl
@@ -212,7 +213,7 @@ module _ (settings : Settings) where
 
   -- Histories exist: with valid settings and enough lent, a box with fresh receivers turns no call away.
   pub box-lives : isValid settings ≡ true → (reply : List ℕ) → longest size ≤ length reply → (w : WorldOf (boxRules settings)) (calls : CallsOf (boxRules settings))
-      → Fresh (boxRules settings) w → memorySize size ≤ length (w .store) → Roomy (boxRules settings) w
+      → Fresh (boxRules settings) w → memorySize size ≤ length (w .store .memory) → Roomy (boxRules settings) w
       → (v : WorldOf (boxRules settings)) × (answers : AnswersOf (boxRules settings)) × History (boxRules settings) w calls v answers
   box-lives valid reply long w calls new good rooms =
       live (boxRules settings) lawful reply (λ message out. longest size ≤ length out) ready (λ message. reply) w calls
@@ -225,9 +226,9 @@ module _ (settings : Settings) where
 
       ready : Ready (boxRules settings) reply (λ message out. longest size ≤ length out)
       ready = record {
-        taken = λ s memory r buffer m e b. rw (le-ltb (length memory) (memorySize size) m, le-ltb (length buffer) (longest size) (omega arith), le-ltb (length reply) (longest size) long, inside s, e, valid);
-        takenDirect = λ message out memory m h. rw (le-ltb (length memory) (memorySize size) m, le-ltb (length out) (longest size) h, valid);
+        taken = λ s state r buffer m e b. rw (le-ltb (length (state .memory)) (memorySize size) m, le-ltb (length buffer) (longest size) (omega arith), le-ltb (length reply) (longest size) long, inside s, e, valid);
+        takenDirect = λ message out state m h. rw (le-ltb (length (state .memory)) (memorySize size) m, le-ltb (length out) (longest size) h, valid);
         quiet = (refl, refl);
-        answered = λ memory s m g. tame-taken (carry-tame settings memory g m);
-        answeredDirect = λ memory message g. tame-taken (message-tame message memory g);
+        answered = λ state s m g. tame-taken (carry-tame settings (state .memory) g m);
+        answeredDirect = λ state message g. tame-taken (message-tame message (state .memory) g);
       }

@@ -20,33 +20,40 @@ use Rattle.podbox.specs.Messages.{carry}
 use Rattle.podbox.specs.Whole.{messageDoes}
 use Rattle.podbox.specs.Take.{TookByte, limit}
 
+-- what stands from call to call, but for receivers and receive buffers
+pub record State : Type 0 where
+  pub memory : List ℕ
+
+abbrev pub stateOf : List ℕ → State
+stateOf memory = record { memory = memory }
+
 -- 0 "byte taken, nothing finished", 4 "SysEx cut", and a call that is turned away
 abbrev pub plainAnswer : ℕ → Answer
 plainAnswer number = cond (eqb number 0) Taken (cond (eqb number 4) Cut (Refused number))
 
 -- "A call tests 30, 31, 32 in that order"; 0 where it takes the byte
-abbrev pub refusalOf : Settings → ℕ → any.Lent (List ℕ) → ℕ
+abbrev pub refusalOf : Settings → ℕ → any.Lent State → ℕ
 refusalOf settings socket entry =
-    cond (ltb (length (entry .store)) (memorySize size)) 30
+    cond (ltb (length (entry .store .memory)) (memorySize size)) 30
     (cond (ltb (length (entry .buffer)) (longest size)) 30
     (cond (ltb (length (entry .reply)) (longest size)) 30
     (cond (ltb 1 socket) 31
     (cond (soundOf limit (entry .receiver)) (cond (isValid settings) 0 32) 32))))
 
 -- "30 for the memory or the reply buffer, 32 for a setting"
-abbrev pub refusalWhole : Settings → any.LentDirect (List ℕ) → ℕ
+abbrev pub refusalWhole : Settings → any.LentDirect State → ℕ
 refusalWhole settings entry =
-    cond (ltb (length (entry .store)) (memorySize size)) 30
+    cond (ltb (length (entry .store .memory)) (memorySize size)) 30
     (cond (ltb (length (entry .out)) (longest size)) 30
     (cond (isValid settings) 0 32))
 
-abbrev pub outcomeOf : Outcome → any.Outcome (List ℕ) Answer
-outcomeOf o = record { store = o .memory; code = o .answer; reply = o .bytes }
+abbrev pub outcomeOf : Outcome → any.Outcome State Answer
+outcomeOf o = record { store = stateOf (o .memory); code = o .answer; reply = o .bytes }
 
 -- what a finished message does, from a socket and from the panel
-abbrev pub finishDoes : Settings → List ℕ → Finish (List ℕ) → any.Outcome (List ℕ) Answer
-finishDoes settings memory (FromSocket s m) = outcomeOf (carry settings memory m)
-finishDoes settings memory (FromDirect message) = outcomeOf (messageDoes settings message memory)
+abbrev pub finishDoes : Settings → State → Finish (List ℕ) → any.Outcome State Answer
+finishDoes settings state (FromSocket s m) = outcomeOf (carry settings (state .memory) m)
+finishDoes settings state (FromDirect message) = outcomeOf (messageDoes settings message (state .memory))
 
 -- the panel's call finishes one message, and says what that one answers
 abbrev pub only : List (any.Answer Answer) → any.Answer Answer
@@ -55,8 +62,8 @@ only (a ∷ rest) = a
 
 abbrev pub boxRules : Settings → any.Rules
 boxRules settings = record {
-  Store = List ℕ;
-  Good = λ memory. memorySize size ≤ length memory;
+  Store = State;
+  Good = λ state. memorySize size ≤ length (state .memory);
   Given = List ℕ;
   Handed = List ℕ;
   Code = Answer;
@@ -73,15 +80,15 @@ boxRules settings = record {
 }
 
 -- what a byte call is lent, and what it leaves and returns
-abbrev pub lentOf : Receiver → List ℕ → List ℕ → List ℕ → any.Lent (List ℕ)
-lentOf r memory receive reply = record { store = memory; receiver = r; buffer = receive; reply = reply }
+abbrev pub lentOf : Receiver → List ℕ → List ℕ → List ℕ → any.Lent State
+lentOf r memory receive reply = record { store = stateOf memory; receiver = r; buffer = receive; reply = reply }
 
-abbrev pub doneOf : TookByte → any.Done (List ℕ) Answer
+abbrev pub doneOf : TookByte → any.Done State Answer
 doneOf l = record { exit = lentOf (l .receiver) (l .memory) (l .receive) (l .reply); code = l .answer }
 
 -- the same of the panel's call
-abbrev pub lentWhole : List ℕ → List ℕ → any.LentDirect (List ℕ)
-lentWhole memory reply = record { store = memory; out = reply }
+abbrev pub lentWhole : List ℕ → List ℕ → any.LentDirect State
+lentWhole memory reply = record { store = stateOf memory; out = reply }
 
-abbrev pub doneWhole : Left → any.DoneDirect (List ℕ) Answer
+abbrev pub doneWhole : Left → any.DoneDirect State Answer
 doneWhole l = record { exit = lentWhole (l .memory) (l .reply); code = l .answer }
