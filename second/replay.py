@@ -483,21 +483,26 @@ def add_settings(script):
         script.whole(message)
 
 
-def make_whole():
-    """Return the script of panel messages."""
-    script = Script()
-    hand = script.whole
-    add_lengths(script)
-    add_frames(script)
+def add_forms(script, hand, step):
+    """Every form, right and wrong, handed over by `hand`; a bad half byte at each `step`th place."""
     add_dumps(hand)
     add_programs(hand)
-    add_halves(hand, 97)
+    add_halves(hand, step)
     add_versions(hand)
     add_kinds(hand)
     add_headers(hand)
     add_orders(hand)
     add_identities(script, hand)
     add_revisions(script, hand)
+
+
+def make_whole():
+    """Return the script of panel messages."""
+    script = Script()
+    hand = script.whole
+    add_lengths(script)
+    add_frames(script)
+    add_forms(script, hand, 97)
     add_middles(script)
     add_shortest(script)
     add_longest(script)
@@ -658,15 +663,7 @@ def add_numbers(script, socket):
 def add_refusals(script, socket):
     """The forms of both scripts, as bytes on a socket."""
     hand = partial(script.feed, socket)
-    add_dumps(hand)
-    add_programs(hand)
-    add_halves(hand, 970)
-    add_versions(hand)
-    add_kinds(hand)
-    add_headers(hand)
-    add_orders(hand)
-    add_identities(script, hand)
-    add_revisions(script, hand)
+    add_forms(script, hand, 970)
     for message in forms(9):
         for length in (len(message) - 1, len(message) + 1):
             hand(resized(message, length))

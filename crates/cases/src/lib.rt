@@ -1,1 +1,1 @@
-// The bench cases of document 01, held against the definitions of the crates below; no code.
+// The bench cases of document 01 and the boxes that it shuts out, held against the definitions of the crates below; no code.

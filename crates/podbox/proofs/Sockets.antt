@@ -10,14 +10,14 @@ use borrow.Author.Tests.{ltb-false, le-ltb, lt-leb}
 use Rattle.ground.proofs.Tests.{by}
 use Rattle.framing.specs.declared.Receiver.{Receiver}
 use Rattle.framing.specs.declared.Event.{Event}
-use Rattle.framing.specs.declared.Event.the-variants as event
 use Rattle.framing.specs.Receiver.{soundOf}
 use Rattle.framing.specs.Bytes.{stepOf}
 use Rattle.framing.proofs.Stands.{fresh-sound}
-use Rattle.sockets.specs.Framer.{Framer, SysEx, Idle}
+use Rattle.sockets.specs.Framer.{Happening, Framer, SysEx, Idle}
+use Rattle.sockets.specs.Framer as happening
 use Rattle.sockets.specs.Calls.{Socket, S0, S1, Byte, Direct, Finish, FromSocket, FromDirect, finishes}
 use Rattle.sockets.specs.Box.{Lent, LentDirect, Lawful, CallsOf, AnswersOf, sentOf, finishedBy, turnedAway, effect}
-use Rattle.sockets.specs.Promise.{happeningOf, numberOf as socketNumber, socketOf, takes, byteBy, byteOf, directBy, directOf, Byted, Directed}
+use Rattle.sockets.specs.Promise.{happeningOf, bufferAfter, numberOf as socketNumber, socketOf, takes, byteBy, byteOf, directBy, directOf, Byted, Directed}
 use Rattle.sockets.specs.History.{WorldOf, History}
 use Rattle.sockets.specs.Demand.{Independent, Fresh, Sound, starts}
 use Rattle.sockets.specs.Calm.{calm, calmAnswers}
@@ -34,7 +34,7 @@ use Rattle.sysex.specs.Carrying.{Outcome, Left, left, leaves}
 use Rattle.podbox.specs.Settings.{size, isValid}
 use Rattle.podbox.specs.Messages.{carry}
 use Rattle.podbox.specs.Whole.{isFramed, bodyOf, messageDoes, wholeOf}
-use Rattle.podbox.specs.Take.{TookByte, took, limit, eventDoes, stepDoes, readyDoes, takeOf}
+use Rattle.podbox.specs.Take.{TookByte, took, limit, carried, happeningDoes, stepDoes, readyDoes, takeOf}
 use Rattle.podbox.specs.Box.{State, stateOf, plainAnswer, refusalOf, refusalWhole, boxRules, lentOf, doneOf, lentWhole, doneWhole}
 use Rattle.podbox.proofs.Carried.{Tame, stores, sends, applies, refuses, carry-tame}
 
@@ -118,18 +118,13 @@ module _ (settings : Settings) where
     passes = λ state message g. refl;
   }
 
-  -- what the event of a byte does, as the laws of two sockets say it
-  event-done : (s : Socket) (e : Event) (next r : Receiver) (byte : ℕ) (memory receive reply : List ℕ)
-      → doneOf (eventDoes settings e next byte memory receive reply)
-      ≡ takes (boxRules settings) byte (lentOf r memory receive reply) (record { receiver = next; event = e })
-      (effect (boxRules settings) (stateOf memory) s (happeningOf e receive))
-  event-done s event.Nothing next r byte memory receive reply = refl
-  event-done s (event.Collect place) next r byte memory receive reply = refl
-  event-done s event.Cut next r byte memory receive reply = refl
-  event-done s event.CutAndOpen next r byte memory receive reply = refl
-  event-done s event.TooLong next r byte memory receive reply = refl
-  event-done s (event.SysEx count) next r byte memory receive reply = refl
-  event-done s (event.Channel status first second) next r byte memory receive reply = refl
+  -- what a byte does, as the laws of two sockets say it
+  happening-done : (s : Socket) (h : Happening) (e : Event) (next r : Receiver) (byte : ℕ) (memory receive reply : List ℕ)
+      → doneOf (carried next (happeningDoes settings memory h) (bufferAfter e receive byte) reply)
+      ≡ takes (boxRules settings) byte (lentOf r memory receive reply) (record { receiver = next; event = e }) (effect (boxRules settings) (stateOf memory) s h)
+  happening-done s happening.Nothing e next r byte memory receive reply = refl
+  happening-done s happening.Cut e next r byte memory receive reply = refl
+  happening-done s (happening.Finished m) e next r byte memory receive reply = refl
 
   take-done : (socket : ℕ) (r : Receiver) (byte : ℕ) (memory receive reply : List ℕ)
       → doneOf (takeOf settings socket r byte memory receive reply) ≡ byteOf (boxRules settings) socket byte (lentOf r memory receive reply)
@@ -148,7 +143,9 @@ module _ (settings : Settings) where
       go false true c d e f = refl
       go false false true d e f = refl
       go false false false true e f = refl
-      go false false false false true true = event-done (socketOf socket) (stepOf limit r byte .event) (stepOf limit r byte .receiver) r byte memory receive reply
+      go false false false false true true =
+          let st = stepOf limit r byte in
+          happening-done (socketOf socket) (happeningOf (st .event) receive) (st .event) (st .receiver) r byte memory receive reply
       go false false false false true false = refl
       go false false false false false f = refl
 

@@ -1,9 +1,9 @@
 -- One byte on one socket: "A call tests 30, 31, 32 in that order, then takes the byte."
 use Prim.Native.Nat.{ℕ, _-_, _≤_, _<_}
 use mathlib.Core.Bool.{cond}
-use mathlib.Core.List.{List}
+use mathlib.Core.List.{List, []}
 use lib.Dec.{ltb}
-use lib.ListN.{length, take, set}
+use lib.ListN.{length}
 use Rattle.ground.specs.Lists.{written}
 use Rattle.framing.specs.declared.Receiver.{Receiver}
 use Rattle.framing.specs.declared.Event.{Event}
@@ -11,13 +11,15 @@ use Rattle.framing.specs.declared.Event.the-variants as event
 use Rattle.framing.specs.declared.Stepped.{Stepped}
 use Rattle.framing.specs.Receiver.{soundOf}
 use Rattle.framing.specs.Bytes.{stepOf}
-use Rattle.sockets.specs.Framer.{SysEx, TooLong, Channel}
+use Rattle.sockets.specs.Framer.{Happening}
+use Rattle.sockets.specs.Framer as happening
+use Rattle.sockets.specs.Promise.{happeningOf, bufferAfter}
 use Rattle.sysex.specs.declared.Settings.{Settings}
 use Rattle.sysex.specs.declared.Answer.{Answer}
 use Rattle.sysex.specs.declared.Answer.the-variants.{Taken, Cut, Refused}
 use Rattle.sysex.specs.Memory.{memorySize}
 use Rattle.sysex.specs.Forms.{longest}
-use Rattle.sysex.specs.Carrying.{Outcome}
+use Rattle.sysex.specs.Carrying.{Outcome, outcome}
 use Rattle.podbox.specs.Settings.{size, isValid}
 use Rattle.podbox.specs.Messages.{carry}
 
@@ -36,19 +38,20 @@ took receiver answer memory receive reply = record { receiver = receiver; answer
 abbrev pub limit : ℕ
 limit = longest size - 1
 
--- a message that the byte finished is carried out
+-- what an outcome leaves
 abbrev pub carried : Receiver → Outcome → List ℕ → List ℕ → TookByte
 carried receiver o receive reply = took receiver (o .answer) (o .memory) receive (written (o .bytes) reply)
 
--- "a collected byte, F0 too, changes one place of its own receive buffer"; a finished SysEx is what stands there
+-- 0 "byte taken, nothing finished", 4 "SysEx cut", or what the finished message does
+abbrev pub happeningDoes : Settings → List ℕ → Happening → Outcome
+happeningDoes settings memory happening.Nothing = outcome Taken memory []
+happeningDoes settings memory happening.Cut = outcome Cut memory []
+happeningDoes settings memory (happening.Finished m) = carry settings memory m
+
+-- what a byte did is carried out, and its place of the receive buffer changed
 abbrev pub eventDoes : Settings → Event → Receiver → ℕ → List ℕ → List ℕ → List ℕ → TookByte
-eventDoes settings event.Nothing r byte memory receive reply = took r Taken memory receive reply
-eventDoes settings (event.Collect place) r byte memory receive reply = took r Taken memory (set receive place byte) reply
-eventDoes settings event.Cut r byte memory receive reply = took r Cut memory receive reply
-eventDoes settings event.CutAndOpen r byte memory receive reply = took r Cut memory (set receive 0 byte) reply
-eventDoes settings event.TooLong r byte memory receive reply = carried r (carry settings memory TooLong) receive reply
-eventDoes settings (event.SysEx count) r byte memory receive reply = carried r (carry settings memory (SysEx (take count receive))) receive reply
-eventDoes settings (event.Channel status first second) r byte memory receive reply = carried r (carry settings memory (Channel status first second)) receive reply
+eventDoes settings event r byte memory receive reply =
+    carried r (happeningDoes settings memory (happeningOf event receive)) (bufferAfter event receive byte) reply
 
 -- a place that a byte goes to, and a count of bytes that stand, are in the receive buffer
 abbrev pub Within : Event → Type 0

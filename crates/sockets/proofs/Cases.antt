@@ -5,7 +5,7 @@ use mathlib.Core.Path.{_≡_, refl}
 use lib.ListN.{replicate}
 use Rattle.framing.specs.Receiver.{takesOne}
 use Rattle.sockets.specs.Framer.{SysEx, TooLong, Channel, Happening, Nothing, Cut, Finished, Framer, Idle, hears, messagesFrom}
-use Rattle.sockets.specs.Calls.{S0, S1, Byte, Direct, FromSocket, FromDirect, finishes, finished}
+use Rattle.sockets.specs.Calls.{S0, S1, Byte, Direct, FromSocket, FromDirect, finishes, finishedAfter}
 
 pub happeningsOf : ℕ → Framer → List ℕ → List Happening
 happeningsOf limit f [] = []
@@ -69,7 +69,7 @@ unfolding messagesFrom hears takesOne
 listed = refl
 
 -- two sockets, and direct calls that finish two messages and none, mixed: each message stands where its last byte arrived
-pub mixture : finished 5192 (λ (moves : List ℕ). moves)
+pub mixture : finishedAfter 5192 (λ (moves : List ℕ). moves) (λ s. Idle) []
     (Byte S0 0xF0 ∷ Byte S1 0xF0 ∷ Byte S0 0x7E ∷ Byte S1 0x0D ∷ Direct (7 ∷ 8 ∷ []) ∷ Byte S1 0xC1
     ∷ Direct [] ∷ Byte S1 0x7F ∷ Byte S0 0xF7 ∷ Byte S1 0x0E ∷ Byte S0 0x0F ∷ [])
     ≡ FromDirect 7 ∷ FromDirect 8 ∷ FromSocket S1 (Channel 0xC1 0x7F 0)

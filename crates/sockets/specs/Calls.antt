@@ -1,7 +1,7 @@
 -- "The two sockets may talk at once, byte mixed with byte in any order": what a list of calls finishes.
 use Prim.Native.Nat.{ℕ}
 use mathlib.Core.List.{List, [], _∷_, _++_}
-use Rattle.sockets.specs.Framer.{Message, Happening, Nothing, Cut, Finished, Framer, Idle, hears}
+use Rattle.sockets.specs.Framer.{Message, Happening, Nothing, Cut, Finished, Framer, hears}
 
 pub data Socket : Type 0 where
   S0 S1 : Socket
@@ -74,7 +74,3 @@ module _ {Given Handed : Type 0} (limit : ℕ) (hands : Given → List Handed) w
     abbrev pub finishedAfter : List (Call Given) → List (Call Given) → List (Finish Handed)
     finishedAfter before [] = []
     finishedAfter before (c ∷ calls) = finishes before c ++ finishedAfter (before ++ (c ∷ [])) calls
-
-  -- what the calls of a fresh box finish
-  abbrev pub finished : List (Call Given) → List (Finish Handed)
-  finished calls = finishedAfter (λ s. Idle) [] calls
