@@ -10,3 +10,26 @@ run_program() {
     [ -x "$emulator" ] || emulator=
     ${emulator:+"$emulator"} "$toolchain/lib/ld-linux-x86-64.so.2" --library-path "$toolchain/lib" "$@"
 }
+
+# build_c PROGRAM SOURCE.c.. [ARCHIVE.a..] [-FLAG..]: a C program for x86-64 by the kit's compiler, linker and C library
+# alone. Called in the repository's root; no compiler or header of the machine's own is looked at.
+build_c() {
+    local program=$1 lib=$toolchain/lib objects=() flags=() archives=() word
+    shift
+    for word; do
+        case $word in
+            -*) flags+=("$word") ;;
+            *.a) archives+=("$word") ;;
+        esac
+    done
+    mkdir -p "$(dirname "$program")"
+    for word; do
+        case $word in *.c) ;; *) continue ;; esac
+        objects+=("$program.$(basename "$word" .c).o")
+        "$toolchain/bin/clang" --target=x86_64-unknown-linux-gnu -std=c11 -O2 -fPIE -Wall -Wextra -Werror \
+            -nostdinc -isystem firmware/freestanding -Iinclude "${flags[@]}" -c "$word" -o "${objects[-1]}" || return
+    done
+    "$toolchain/bin/ld.lld" -pie -dynamic-linker "$lib/ld-linux-x86-64.so.2" -o "$program" \
+        "$lib/Scrt1.o" "$lib/crti.o" "$lib/crtbeginS.o" "${objects[@]}" "${archives[@]}" \
+        --start-group "$lib/libc.so.6" "$lib/libc_nonshared.a" "$lib/libgcc.a" --end-group "$lib/crtendS.o" "$lib/crtn.o"
+}

@@ -7,7 +7,7 @@ use sysex::Settings;
 pub const MEMORY: usize = (sysex::PROGRAMS + 1) * sysex::PROGRAM;
 
 // Where the edit buffer begins.
-pub(crate) const EDIT: usize = sysex::PROGRAMS * sysex::PROGRAM;
+pub const EDIT: usize = sysex::PROGRAMS * sysex::PROGRAM;
 
 // The longest message, F0 and F7 with it: an all programs dump.
 pub const LONGEST: usize = 2 * sysex::PROGRAMS * sysex::PROGRAM + 9;

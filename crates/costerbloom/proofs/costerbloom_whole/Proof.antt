@@ -1,0 +1,19 @@
+use mathlib.Core.Path.{_≡_, ap}
+use Rattle.costerbloom.specs.Numbers.{wholeInNumbers, wholeNumbers}
+use borrow.Author.Needs.{needs}
+use Rattle.costerbloom.proofs.costerbloom_whole.Statement.{statement}
+use Rattle.costerbloom.proofs.costerbloom_whole.Tie as tie
+
+returns : tie.Need-returns
+unfolding wholeNumbers
+returns c = rw (c .packed .ensures) (ap wholeInNumbers (c .before .before .before .before .before .whole-message .ensures))
+
+pub costerbloom-whole-spec : {M : Type 1} → statement M
+costerbloom-whole-spec =
+    tie.close
+    (tie.spec
+    (λ c κs. search needs)
+    (λ c κs. search needs)
+    (λ c. search needs)
+    (λ c. search needs)
+    returns)

@@ -1,0 +1,24 @@
+// Answers as single numbers.
+ghost use mathlib.Core.Path.{_≡_};
+ghost use Rattle.costerbloom.specs.Numbers.{packed, said};
+use controls::Reading;
+use sysex::Answer;
+
+// The number in bits 0 to 7, the reply length in bits 8 to 23.
+pub(crate) fn packed(answer: Answer) -> u64
+    ensures { λ r. ⌜ r ≡ packed answer ⌝ }
+{
+    let number = sysex::number_of(answer) as u64;
+    let length = sysex::length_of(answer) as u64;
+    number + 256 * length
+}
+
+// A value as it is, a refusal above every value.
+pub(crate) fn said(reading: Reading) -> u32
+    ensures { λ r. ⌜ r ≡ said reading ⌝ }
+{
+    match reading {
+        Reading::Value(value) => value as u32,
+        Reading::Refused(number) => 65536 + number as u32,
+    }
+}
