@@ -5,7 +5,6 @@ ghost use mathlib.Core.Path.{_≡_};
 ghost use Rattle.costerbloom.specs.Numbers.{settingsOf, tookNumbers, takeNumbers, leftNumbers, wholeNumbers, scaleNumber, memoryBack, backNumber};
 use controls::Reading;
 use framing::Receiver;
-use sysex::Settings;
 
 // What the byte call gives back in numbers: the receiver for the next one, and the answer.
 struct Handed {
@@ -65,14 +64,7 @@ fn take(
 ) -> Handed
     ensures { λ r. ⌜ tookNumbers (r .receiver) (r .answer) (now (memory .exit)) (now (receive .exit)) (now (reply .exit)) ≡ takeNumbers (settingsOf channel omni revision0 revision1 revision2 revision3) socket receiver byte (now (memory .entry)) (now (receive .entry)) (now (reply .entry)) ⌝ }
 {
-    let settings = Settings {
-        channel,
-        omni,
-        revision0,
-        revision1,
-        revision2,
-        revision3,
-    };
+    let settings = numbers::settings(channel, omni, revision0, revision1, revision2, revision3);
     let took = podbox::take_byte(receiver, socket, byte, settings, memory, receive, reply);
     let next = took.receiver;
     let answer = took.answer;
@@ -96,14 +88,7 @@ pub extern "C" fn costerbloom_whole(
 ) -> u64
     ensures { λ r. ⌜ leftNumbers r (now (memory .exit)) (now (reply .exit)) ≡ wholeNumbers (settingsOf channel omni revision0 revision1 revision2 revision3) (now (message .entry)) (now (memory .entry)) (now (reply .entry)) ⌝ }
 {
-    let settings = Settings {
-        channel,
-        omni,
-        revision0,
-        revision1,
-        revision2,
-        revision3,
-    };
+    let settings = numbers::settings(channel, omni, revision0, revision1, revision2, revision3);
     let answer = podbox::whole_message(message, settings, memory, reply);
     numbers::packed(answer)
 }

@@ -1,8 +1,29 @@
-// Answers as single numbers.
+// Settings from numbers, and answers as single numbers.
 ghost use mathlib.Core.Path.{_≡_};
-ghost use Rattle.costerbloom.specs.Numbers.{packed, said};
+ghost use Rattle.costerbloom.specs.Numbers.{settingsOf, packed, said};
 use controls::Reading;
 use sysex::Answer;
+use sysex::Settings;
+
+pub(crate) fn settings(
+    channel: u8,
+    omni: u8,
+    revision0: u8,
+    revision1: u8,
+    revision2: u8,
+    revision3: u8,
+) -> Settings
+    ensures { λ r. ⌜ r ≡ settingsOf channel omni revision0 revision1 revision2 revision3 ⌝ }
+{
+    Settings {
+        channel,
+        omni,
+        revision0,
+        revision1,
+        revision2,
+        revision3,
+    }
+}
 
 // The number in bits 0 to 7, the reply length in bits 8 to 23.
 pub(crate) fn packed(answer: Answer) -> u64

@@ -14,7 +14,7 @@ use Rattle.sysex.specs.declared.Settings.{Settings}
 use Rattle.sysex.specs.declared.Order.{Order}
 use Rattle.sysex.specs.declared.Answer.the-variants.{Stored, Sent, Applied, Refused}
 use Rattle.sysex.specs.Memory.{memorySize, editPlace, partOf, putPart}
-use Rattle.sysex.specs.Forms.{dataPlace, identityOf}
+use Rattle.sysex.specs.Forms.{dataPlace, longest, identityOf}
 use Rattle.sysex.specs.Judging.{judgeOf}
 use Rattle.sysex.specs.Carrying.{Outcome, outcome, orderDoes}
 use Rattle.sysex.specs.Formats.{typeFor, placeFor, countFor}
@@ -22,12 +22,12 @@ use Rattle.sysex.proofs.Stored.{put-length}
 use Rattle.sysex.proofs.Understands.{Meant, identity, asked, dumped, refused, meant}
 use Rattle.podbox.specs.Settings.{size}
 use Rattle.podbox.specs.Messages.{isHeard, isController, answerOf, controllerDoes, carry}
-use Rattle.podbox.proofs.WholeMessages.{store-does, send-does, dumpMessage, named-inside}
+use Rattle.podbox.proofs.WholeMessages.{store-does, send-does, dumpMessage, dump-fits, named-inside}
 
--- an outcome: 1 and 3 keep the length of memory and send nothing, 2 sends and keeps memory, a refusal from 10 to 22 does nothing
+-- an outcome: 1 and 3 keep the length of memory and send nothing, 2 sends no more than the longest message and keeps memory, a refusal from 10 to 22 does nothing
 pub data Tame (memory : List ℕ) : Outcome → Type 0 where
   stores : (after : List ℕ) → length after ≡ length memory → Tame memory (outcome Stored after [])
-  sends : (bytes : List ℕ) → Tame memory (outcome (Sent (length bytes)) memory bytes)
+  sends : (bytes : List ℕ) → length bytes ≤ longest size → Tame memory (outcome (Sent (length bytes)) memory bytes)
   applies : (after : List ℕ) → length after ≡ length memory → Tame memory (outcome Applied after [])
   refuses : (number : ℕ) → 10 ≤ number → number ≤ 22 → Tame memory (outcome (Refused number) memory [])
 
@@ -38,8 +38,11 @@ put-same place count memory = rw (take-append-drop count (drop place memory)) (t
 module _ (settings : Settings) (memory : List ℕ) (m : memorySize size ≤ length memory) where
   order-tame : (body : List ℕ) (o : Order) → Meant size settings body o → Tame memory (orderDoes size settings o body memory)
   unfolding orderDoes
-  order-tame body o (identity channel i) = sends (identityOf settings channel)
-  order-tame body o (asked t q) = rw (send-does settings t body memory) (sends (dumpMessage t (partOf (placeFor size t) (countFor size t) memory)))
+  order-tame body o (identity channel i) = sends (identityOf settings channel) (omega arith)
+  order-tame body o (asked t q) =
+      let part = partOf (placeFor size t) (countFor size t) memory in
+      let inside = named-inside t (q .there) in
+      rw (send-does settings t body memory) (sends (dumpMessage t part) (dump-fits t part (simp (length-take, length-drop) (omega arith))))
   order-tame body o (dumped t d) =
       let inside = named-inside t (d .there) in
       rw (store-does settings t body memory) (stores _ (put-length (placeFor size t) (countFor size t) (join (drop (dataPlace (typeFor t)) body)) memory (omega arith) (d .count)))

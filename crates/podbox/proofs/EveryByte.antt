@@ -48,6 +48,8 @@ pub record Answered (r : Receiver) (byte : ℕ) (memory receive reply : List ℕ
   pub turned-away : 30 ≤ numberOf (l .answer) → l ≡ took r (l .answer) memory receive reply
   -- no byte behind the reply's length changes, and "The reply length is 0 unless the number is 2"
   pub behind : drop (lengthOf (l .answer)) (l .reply) ≡ drop (lengthOf (l .answer)) reply
+  -- a reply has room in the reply buffer
+  pub fits : lengthOf (l .answer) ≤ longest size
   pub length-kept : length (l .memory) ≡ length memory
   pub placed : OnePlace r byte receive (l .receive)
 
@@ -58,42 +60,44 @@ module _ (settings : Settings) (r : Receiver) (byte : ℕ) (memory receive reply
   -- 30, 31 and 32
   away : (number : ℕ) → 30 ≤ number → number ≤ 32 → Good (took r (Refused number) memory receive reply)
   away number lo hi =
-      record { numbered = inr (inr (inl (lo, hi))); refused = λ _. (refl, refl); turned-away = λ _. refl; behind = refl; length-kept = refl; placed = inl refl }
+      record { numbered = inr (inr (inl (lo, hi))); refused = λ _. (refl, refl); turned-away = λ _. refl; behind = refl; fits = omega arith; length-kept = refl; placed = inl refl }
 
   -- 0 to 4: no refusal, so what is left to say is of the reply, of memory's length and of the receive buffer
-  accepted : (next : Receiver) (answer : Answer) (after place sent : List ℕ) → numberOf answer ≤ 4 → drop (lengthOf answer) sent ≡ drop (lengthOf answer) reply
+  accepted : (next : Receiver) (answer : Answer) (after place sent : List ℕ) → numberOf answer ≤ 4 → lengthOf answer ≤ longest size → drop (lengthOf answer) sent ≡ drop (lengthOf answer) reply
       → length after ≡ length memory → OnePlace r byte receive place → Good (took next answer after place sent)
-  accepted next answer after place sent small behind kept one = record {
+  accepted next answer after place sent small short behind kept one = record {
     numbered = inl small;
     refused = λ h. absurd (omega arith);
     turned-away = λ h. absurd (omega arith);
     behind = behind;
+    fits = short;
     length-kept = kept;
     placed = one;
   }
 
   -- a message that was carried out
   done : (next : Receiver) (o : Outcome) → Tame memory o → Good (carried next o receive reply)
-  done next o (stores after e) = accepted next Stored after receive reply (omega arith) refl e (inl refl)
-  done next o (sends bytes) =
-      accepted next (Sent (length bytes)) memory receive (written bytes reply) (omega arith) (drop-append-seam bytes (drop (length bytes) reply)) refl (inl refl)
-  done next o (applies after e) = accepted next Applied after receive reply (omega arith) refl e (inl refl)
+  done next o (stores after e) = accepted next Stored after receive reply (omega arith) (omega arith) refl e (inl refl)
+  done next o (sends bytes short) =
+      accepted next (Sent (length bytes)) memory receive (written bytes reply) (omega arith) short (drop-append-seam bytes (drop (length bytes) reply)) refl (inl refl)
+  done next o (applies after e) = accepted next Applied after receive reply (omega arith) (omega arith) refl e (inl refl)
   done next o (refuses number lo hi) = record {
     numbered = inr (inl (lo, hi));
     refused = λ _. (refl, refl);
     turned-away = λ h. absurd (omega arith);
     behind = refl;
+    fits = omega arith;
     length-kept = refl;
     placed = inl refl;
   }
 
   event-answered : memorySize size ≤ length memory → (next : Receiver) (e : Event) → Belongs r byte e → Good (eventDoes settings e next byte memory receive reply)
-  event-answered m next event.Nothing b = accepted next Taken memory receive reply (omega arith) refl refl (inl refl)
+  event-answered m next event.Nothing b = accepted next Taken memory receive reply (omega arith) (omega arith) refl refl (inl refl)
   event-answered m next (event.Collect place) b =
-      accepted next Taken memory (set receive place byte) reply (omega arith) refl refl
+      accepted next Taken memory (set receive place byte) reply (omega arith) (omega arith) refl refl
       (⊎-elim (λ p. inr (inl (ap (λ (k : ℕ). set receive k byte) (p .0), p .1))) (λ p. inr (inr (ap (λ (k : ℕ). set receive k byte) (p .0), p .1))) b)
-  event-answered m next event.Cut b = accepted next Cut memory receive reply (omega arith) refl refl (inl refl)
-  event-answered m next event.CutAndOpen b = accepted next Cut memory (set receive 0 byte) reply (omega arith) refl refl (inr (inr (refl, b)))
+  event-answered m next event.Cut b = accepted next Cut memory receive reply (omega arith) (omega arith) refl refl (inl refl)
+  event-answered m next event.CutAndOpen b = accepted next Cut memory (set receive 0 byte) reply (omega arith) (omega arith) refl refl (inr (inr (refl, b)))
   event-answered m next event.TooLong b = done next (carry settings memory TooLong) (carry-tame settings memory m TooLong)
   event-answered m next (event.SysEx count) b = done next (carry settings memory (SysEx (take count receive))) (carry-tame settings memory m (SysEx (take count receive)))
   event-answered m next (event.Channel status first second) b =

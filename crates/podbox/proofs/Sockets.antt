@@ -41,19 +41,19 @@ use Rattle.podbox.proofs.Carried.{Tame, stores, sends, applies, refuses
 -- what an outcome does not do: it neither grows memory, nor tells a length that it did not send, nor turns a call away
 tame-length : {memory : List ℕ} {o : Outcome} → Tame memory o → length (o .memory) ≡ length memory
 tame-length (stores after e) = e
-tame-length (sends bytes) = refl
+tame-length (sends bytes short) = refl
 tame-length (applies after e) = e
 tame-length (refuses number lo hi) = refl
 
 tame-told : {memory : List ℕ} {o : Outcome} → Tame memory o → lengthOf (o .answer) ≡ length (o .bytes)
 tame-told (stores after e) = refl
-tame-told (sends bytes) = refl
+tame-told (sends bytes short) = refl
 tame-told (applies after e) = refl
 tame-told (refuses number lo hi) = refl
 
 tame-taken : {memory : List ℕ} {o : Outcome} → Tame memory o → turnedAway (numberOf (o .answer)) ≡ false
 tame-taken (stores after e) = refl
-tame-taken (sends bytes) = refl
+tame-taken (sends bytes short) = refl
 tame-taken (applies after e) = refl
 tame-taken (refuses number lo hi) = rw (lt-leb 30 number (omega arith)) refl
 

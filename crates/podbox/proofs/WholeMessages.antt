@@ -74,6 +74,10 @@ dump-short (One p) bytes e = omega (arith, length-split bytes)
 dump-short Edit bytes e = omega (arith, length-split bytes)
 dump-short All bytes e = omega (arith, length-split bytes)
 
+-- a dump's message is no longer than the longest
+pub dump-fits : (t : Target) (bytes : List ℕ) → length bytes ≡ countFor size t → length (dumpMessage t bytes) ≤ longest size
+dump-fits t bytes e = omega (arith, length-append (dumpBody t bytes) (0xF7 ∷ []), dump-short t bytes e)
+
 request-low : (t : Target) → There t → allAtMost 0x7F (requestRest t) ≡ true
 request-low (One p) h = rw (le-leb p 0x7F (omega arith))
 request-low Edit h = refl

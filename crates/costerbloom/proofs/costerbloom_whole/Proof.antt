@@ -6,12 +6,13 @@ use Rattle.costerbloom.proofs.costerbloom_whole.Tie as tie
 
 returns : tie.Need-returns
 unfolding wholeNumbers
-returns c = rw (c .packed .ensures) (ap wholeInNumbers (c .before .before .before .before .before .whole-message .ensures))
+returns c = rw (c .packed .ensures, ← c .before .before .before .before .before .before .before .before .settings .ensures) (ap wholeInNumbers (c .before .before .before .before .before .whole-message .ensures))
 
 pub costerbloom-whole-spec : {M : Type 1} → statement M
 costerbloom-whole-spec =
     tie.close
     (tie.spec
+    (λ c κs. search needs)
     (λ c κs. search needs)
     (λ c κs. search needs)
     (λ c. search needs)

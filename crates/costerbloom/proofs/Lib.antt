@@ -1,0 +1,2 @@
+pub mod ToldApart
+pub mod OneResult
