@@ -1,4 +1,7 @@
 // What is kept from command to command, beside the buffers.
+use crate::buffers;
+use crate::buffers::Lent;
+use crate::receiver;
 use crate::script;
 use crate::script::Command;
 use framing::Receiver;
@@ -8,20 +11,27 @@ pub(crate) struct Desk {
     // The message's length; one above its buffer's is taken as that.
     pub(crate) length: u16,
     pub(crate) settings: Settings,
+    pub(crate) lent: Lent,
     pub(crate) receiver0: Receiver,
     pub(crate) receiver1: Receiver,
+    pub(crate) controller: u32,
+    // How many calls there were.
+    pub(crate) calls: u64,
 }
 
 pub(crate) fn fresh() -> Desk {
     Desk {
         length: 0,
         settings: podbox::FRESH_SETTINGS,
+        lent: buffers::NEEDED,
         receiver0: framing::FRESH,
         receiver1: framing::FRESH,
+        controller: 0,
+        calls: 0,
     }
 }
 
-// The desk after a command that sets the length or the settings; any other command leaves it.
+// The desk after a command that sets something of it; any other command leaves it.
 pub(crate) fn changed(before: Desk, command: Command) -> Desk {
     let mut desk = before;
     let op = command.op;
@@ -32,6 +42,9 @@ pub(crate) fn changed(before: Desk, command: Command) -> Desk {
             desk.settings.omni = command.b;
         }
         b'R' => desk.settings = revised(desk.settings, command.a % 4, command.v),
+        b'Z' => desk.lent = buffers::lent_by(desk.lent, command),
+        b'E' => desk = with_part(desk, command),
+        b'N' => desk.controller = lengthened(desk.controller, script::number(command)),
         _ => {}
     }
     desk
@@ -46,4 +59,42 @@ fn revised(before: Settings, place: u8, byte: u8) -> Settings {
         _ => settings.revision3 = byte,
     }
     settings
+}
+
+// The part of a receiver that E sets.
+fn with_part(desk: Desk, command: Command) -> Desk {
+    let socket = command.b as u32 % 2;
+    let before = receiver_of(desk, socket);
+    let after = receiver::changed(before, command.a % 8, command.v);
+    with_receiver(desk, socket, after)
+}
+
+// Two bytes more at the bottom of a controller's number; what stood above its lowest two is lost.
+fn lengthened(controller: u32, low: u16) -> u32 {
+    65536 * (controller % 65536) + low as u32
+}
+
+// Socket 0 has receiver 0; any other number is lent receiver 1.
+pub(crate) fn receiver_of(desk: Desk, socket: u32) -> Receiver {
+    if socket == 0 {
+        return desk.receiver0;
+    }
+    desk.receiver1
+}
+
+pub(crate) fn with_receiver(before: Desk, socket: u32, receiver: Receiver) -> Desk {
+    let mut desk = before;
+    if socket == 0 {
+        desk.receiver0 = receiver;
+    } else {
+        desk.receiver1 = receiver;
+    }
+    desk
+}
+
+// One call more. The count would begin again after 2^64 calls, which no run reaches.
+pub(crate) fn counted(before: Desk) -> Desk {
+    let mut desk = before;
+    desk.calls = std::num::wrapping_add_u64(desk.calls, 1);
+    desk
 }

@@ -1,30 +1,33 @@
-// Runs a script of calls, and prints each answer with digests of memory and of the reply buffer.
+// Runs a script of calls, and prints each answer with digests of the buffers and with the receivers.
+mod buffers;
 mod calls;
 mod desk;
 mod message;
 mod print;
+mod receiver;
 mod script;
 
+use buffers::Buffer;
+use buffers::Memory;
 use desk::Desk;
 use message::Message;
-use podbox::Buffer;
-use podbox::Memory;
 use script::Command;
 use script::Next;
 
 fn main() {
     let mut message: Message = [0; message::SIZE];
-    let mut memory: Memory = [0; podbox::MEMORY];
-    let mut receive0: Buffer = [0; podbox::LONGEST];
-    let mut receive1: Buffer = [0; podbox::LONGEST];
-    let mut reply: Buffer = [0; podbox::LONGEST];
-    replay(
+    let mut memory: Memory = [0; buffers::MEMORY];
+    let mut receive0: Buffer = [0; buffers::SIZE];
+    let mut receive1: Buffer = [0; buffers::SIZE];
+    let mut reply: Buffer = [0; buffers::SIZE];
+    let desk = replay(
         &mut message,
         &mut memory,
         &mut receive0,
         &mut receive1,
         &mut reply,
     );
+    print::end(desk, &memory);
 }
 
 // Command after command, to the end of the script. A proved loop has to end, and nothing says that an input does: so its
@@ -35,17 +38,18 @@ fn replay(
     receive0: &mut Buffer,
     receive1: &mut Buffer,
     reply: &mut Buffer,
-) {
+) -> Desk {
     let mut desk = desk::fresh();
     for _ in 0..u64::MAX {
         let Next::Do(command) = script::read() else {
-            return;
+            return desk;
         };
         desk = run(desk, command, message, memory, receive0, receive1, reply);
     }
+    desk
 }
 
-// A command changes the message or the desk, or it calls the box, or it is none.
+// A command changes the message, memory or the desk, or it is a call, or it is none.
 fn run(
     before: Desk,
     command: Command,
@@ -56,11 +60,12 @@ fn run(
     reply: &mut Buffer,
 ) -> Desk {
     message::change(message, before.length, command);
+    buffers::change(memory, command);
     let desk = desk::changed(before, command);
     called(desk, command, message, memory, receive0, receive1, reply)
 }
 
-// The desk after a command that calls the box; any other leaves it.
+// The desk after a command that is a call; any other leaves it.
 fn called(
     desk: Desk,
     command: Command,
@@ -71,31 +76,16 @@ fn called(
     reply: &mut Buffer,
 ) -> Desk {
     let end = io::count(desk.length as isize, message);
-    let socket = command.a as u32;
+    let whole = &message[..end];
+    let byte = [command.v];
+    let socket = script::socket(command);
     let op = command.op;
     match op {
-        b'W' => {
-            calls::whole(&message[..end], desk.settings, memory, reply);
-            desk
-        }
-        b'S' => calls::on_socket(
-            desk,
-            socket,
-            &[command.v],
-            memory,
-            receive0,
-            receive1,
-            reply,
-        ),
-        b'M' => calls::on_socket(
-            desk,
-            socket,
-            &message[..end],
-            memory,
-            receive0,
-            receive1,
-            reply,
-        ),
+        b'W' => calls::whole(desk, whole, memory, receive0, receive1, reply),
+        b'S' => calls::on_socket(desk, socket, &byte, memory, receive0, receive1, reply),
+        b'M' => calls::on_socket(desk, socket, whole, memory, receive0, receive1, reply),
+        b'K' => calls::scale(desk, script::value(command)),
+        b'D' => calls::show_back(desk, memory),
         _ => desk,
     }
 }

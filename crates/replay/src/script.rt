@@ -31,3 +31,13 @@ pub(crate) fn read() -> Next {
 pub(crate) fn number(command: Command) -> u16 {
     command.a as u16 + 256 * command.b as u16
 }
+
+// The socket's number: a, and b as its highest byte, so that numbers far above 1 come too.
+pub(crate) fn socket(command: Command) -> u32 {
+    command.a as u32 + 0x100_0000 * command.b as u32
+}
+
+// The value for a controller: n, and v as its highest byte.
+pub(crate) fn value(command: Command) -> u32 {
+    number(command) as u32 + 0x100_0000 * command.v as u32
+}

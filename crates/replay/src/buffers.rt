@@ -1,0 +1,50 @@
+// The buffers that calls are lent, each longer than a call needs, and how much of each is lent.
+use crate::script;
+use crate::script::Command;
+
+pub(crate) const MEMORY: usize = 2700;
+
+// Of a receive buffer and of the reply buffer.
+pub(crate) const SIZE: usize = 5220;
+
+pub(crate) type Memory = [u8; MEMORY];
+
+pub(crate) type Buffer = [u8; SIZE];
+
+// How many bytes of each are lent; one above the buffer's own length is taken as that.
+pub(crate) struct Lent {
+    pub(crate) memory: u16,
+    pub(crate) receive0: u16,
+    pub(crate) receive1: u16,
+    pub(crate) reply: u16,
+}
+
+// As much as a call needs.
+pub(crate) const NEEDED: Lent = Lent {
+    memory: podbox::MEMORY as u16,
+    receive0: podbox::LONGEST as u16,
+    receive1: podbox::LONGEST as u16,
+    reply: podbox::LONGEST as u16,
+};
+
+// What a command writes to memory; any other command leaves it.
+pub(crate) fn change(memory: &mut Memory, command: Command) {
+    if command.op == b'Y' {
+        let place = script::number(command) as usize;
+        memory[place % MEMORY] = command.v;
+    }
+}
+
+// What is lent after Z.
+pub(crate) fn lent_by(before: Lent, command: Command) -> Lent {
+    let mut lent = before;
+    let count = script::number(command);
+    let buffer = command.v % 4;
+    match buffer {
+        0 => lent.memory = count,
+        1 => lent.receive0 = count,
+        2 => lent.receive1 = count,
+        _ => lent.reply = count,
+    }
+    lent
+}
