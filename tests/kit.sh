@@ -5,10 +5,10 @@ rt=$(command -v rt || echo "${RATTLE_HOME:-/opt/rattle}/bin/rt")
 toolchain=$(dirname "$(dirname "$("$rt" doc)")")/on/$(uname -m)/toolchain
 
 # Runs an x86-64 program as the kit does: under its own loader and C library, on another processor under its emulator.
+runner=("$toolchain/lib/ld-linux-x86-64.so.2" --library-path "$toolchain/lib")
+[ ! -x "$toolchain/bin/qemu-x86_64" ] || runner=("$toolchain/bin/qemu-x86_64" "${runner[@]}")
 run_program() {
-    local emulator=$toolchain/bin/qemu-x86_64
-    [ -x "$emulator" ] || emulator=
-    ${emulator:+"$emulator"} "$toolchain/lib/ld-linux-x86-64.so.2" --library-path "$toolchain/lib" "$@"
+    "${runner[@]}" "$@"
 }
 
 # build_c PROGRAM SOURCE.c.. [ARCHIVE.a..] [-FLAG..]: a C program for x86-64 by the kit's compiler, linker and C library
