@@ -1,8 +1,8 @@
 """The whole box of document 01, written from its text alone."""
 
-from typing import NamedTuple
+from typing import NamedTuple, Optional
 
-from controllers import EDIT_LENGTH, apply, read, split
+from controllers import EDIT_LENGTH, TOO_SHORT, apply, back, read, split
 
 PROGRAMS = 36     # "36 programs (0x00 to 0x23, shown 1A to 9D)"
 EDIT_START = PROGRAMS * EDIT_LENGTH       # "then the edit buffer"
@@ -31,7 +31,7 @@ OTHER_CHANNEL = 20    # "channel message on another channel, not omni"
 NO_CONTROLLER = 21    # "channel message other than a controller"
 OTHER_IDENTITY = 22   # "identity request for another channel, not omni"
 NO_SOCKET = 31        # "socket not 0 or 1"
-BAD_SETTING = 32      # "a setting out of its range"
+NOT_SOUND = 32        # "receiver not sound, or a setting out of its range"
 
 # "All the rest begins F0 00 01 0C 01"
 HEADER = bytes.fromhex('F0 00 01 0C 01')
@@ -55,6 +55,12 @@ LENGTHS = {
     (DUMP, EDIT): 153,
     (DUMP, ALL): 5193,
 }
+
+# The buffers that are lent, and the least length of each: memory 2,664, "a
+# receive buffer of at least 5,193 bytes.  The reply buffer has at least
+# 5,193."
+MEMORY, RECEIVE, REPLY = 0, (1, 2), 3
+LEAST = (MEMORY_LENGTH, LONGEST, LONGEST, LONGEST)
 
 
 class Settings:
@@ -82,83 +88,118 @@ class Taken(NamedTuple):
     """What a receiver makes of a byte: a number, or a finished message."""
 
     number: int = TAKEN
-    message: bytes = b''  # with its status byte; empty: nothing to judge
+    sysex: Optional[bytes] = None    # as it stands, and F7
+    channel: Optional[bytes] = None  # with its status byte
+
+
+def takes_two(status):
+    """Say whether a status byte has two data bytes."""
+    # "Kinds C and D take one data byte, the others two."
+    return status >> 4 in (0x8, 0x9, 0xA, 0xB, 0xE)
 
 
 class Receiver:
-    """The bytes of one socket on their way to a finished message."""
+    """The "small record that the firmware lends call after call"."""
 
     def __init__(self):
         # "A fresh receiver has nothing open, stored, waiting or running."
-        self.stored = None   # F0 and the bytes after it; None: nothing open
-        self.too_long = False
-        self.running = None  # running status
-        self.waiting = None  # the first data byte of two
+        self.stored = 0   # how many bytes of the receive buffer
+        self.inside = 0   # 1: a SysEx is open
+        self.over = 0     # 1: it is marked too long
+        self.running = 0  # running status; 0: none
+        self.held = 0     # 1: the first data byte of two waits
+        self.waiting = 0  # that byte; 0 where none waits
 
-    def take(self, byte):
-        """Take one byte and return what it makes."""
+    def is_sound(self):
+        """Say whether "a receiver is sound"; a flag is 0 or 1."""
+        return (self.inside <= 1 and self.over <= 1 and self.held <= 1
+                and self.is_open_sound() and self.is_channel_sound())
+
+    def is_open_sound(self):
+        """Say so of an open SysEx, with flags of 0 or 1."""
+        # "its stored count is 0 to 5,192, at least 1 exactly when a SysEx is
+        # open"; "too long is marked only on an open SysEx with 5,192 stored"
+        return (self.stored <= MOST_STORED
+                and (self.stored >= 1) == (self.inside == 1)
+                and (self.over == 0 or self.stored == MOST_STORED))
+
+    def is_channel_sound(self):
+        """Say so of running status and a waiting byte."""
+        # "running status is none or 80 to EF, and none while one is open"
+        if self.running != 0 and (self.inside == 1
+                                  or not 0x80 <= self.running < START):
+            return False
+        # "a waiting data byte is at most 0x7F and stands only under a
+        # two-byte status"
+        if self.held == 1:
+            return self.waiting <= TOP_BYTE and takes_two(self.running)
+        return self.waiting == 0
+
+    def take(self, byte, receive):
+        """Take one byte, beside the receive buffer; return what it makes."""
         # "F8 to FF: reply number 0, and nothing changes, in the middle of a
         # message too."
         if byte >= REAL_TIME:
             return Taken()
-        if self.stored is not None:
-            return self.take_inside(byte)
+        if self.inside == 1:
+            return self.take_inside(byte, receive)
         if byte > TOP_BYTE:
-            self.take_status(byte)
+            self.take_status(byte, receive)
             return Taken()
-        return Taken(message=self.take_data(byte))
+        return Taken(channel=self.take_data(byte))
 
-    def take_inside(self, byte):
+    def take_inside(self, byte, receive):
         """Take a byte below F8 in an open SysEx."""
         if byte <= TOP_BYTE:
-            self.collect(byte)
+            self.collect(byte, receive)
             return Taken()
-        stored, too_long = self.stored, self.too_long
-        self.stored, self.too_long = None, False
+        stored, over = self.stored, self.over
+        self.stored = self.inside = self.over = 0
         # "Any other status byte below F8 cuts it (number 4); that byte then
         # acts as it would outside a SysEx, so F0 opens a new one."
         if byte != END:
-            self.take_status(byte)
+            self.take_status(byte, receive)
             return Taken(CUT)
         # "F7 then gives 10, a cut gives 4"
-        if too_long:
+        if over == 1:
             return Taken(TOO_LONG)
-        # "F7 finishes it."
-        return Taken(message=bytes(stored) + END_BYTE)
+        # "F7 finishes it."  "F7 is not stored."
+        return Taken(sysex=bytes(receive[:stored]) + END_BYTE)
 
-    def collect(self, byte):
-        """Add a data byte to the open SysEx."""
+    def collect(self, byte, receive):
+        """Add a byte to the open SysEx."""
         # "At most 5,192 are stored ... A further byte is dropped and the
         # message marked too long"
-        if len(self.stored) == MOST_STORED:
-            self.too_long = True
+        if self.stored == MOST_STORED:
+            self.over = 1
         else:
-            self.stored.append(byte)
+            receive[self.stored] = byte
+            self.stored += 1
 
-    def take_status(self, byte):
+    def take_status(self, byte, receive):
         """Take 80 to F7 with no SysEx open."""
         # "80 to EF outside a SysEx sets running status and drops a
         # half-received message."  "F1 to F6, and F7 outside a SysEx, clear
         # running status."  "F0 opens a SysEx and clears running status."
-        self.waiting = None
-        self.running = byte if byte < START else None
+        self.held = self.waiting = 0
+        self.running = byte if byte < START else 0
         if byte == START:
-            self.stored = bytearray((byte,))
+            self.inside = 1
+            self.collect(byte, receive)
 
     def take_data(self, byte):
-        """Return the message that a data byte finishes, or an empty one."""
+        """Return the channel message that a data byte finishes, or None."""
         # "A data byte with no running status is skipped."
-        if self.running is None:
-            return b''
-        # "Kinds C and D take one data byte, the others two."
-        if self.running >> 4 in (0xC, 0xD):
+        if self.running == 0:
+            return None
+        if not takes_two(self.running):
             return bytes((self.running, byte))
-        if self.waiting is None:
-            self.waiting = byte
-            return b''
+        if self.held == 0:
+            self.held, self.waiting = 1, byte
+            return None
         # "The last one finishes the message; running status stays."
         message = bytes((self.running, self.waiting, byte))
-        self.waiting = None
+        self.held = self.waiting = 0
         return message
 
 
@@ -172,9 +213,10 @@ def is_framed(message):
 
 def is_identity(message):
     """Say whether a SysEx is an identity request."""
-    # "Identity: F0 7E cc 06 01 F7"; "Any other 7E message is 11": it does
-    # not begin with the header
-    return message[:2] == IDENTITY_FRONT and message[3:] == IDENTITY_BACK
+    # "Identity: F0 7E cc 06 01 F7, cc at most 0x7F."; "Any other 7E message
+    # is 11": it does not begin with the header
+    return (message[:2] == IDENTITY_FRONT and message[3:] == IDENTITY_BACK
+            and message[2] <= TOP_BYTE)
 
 
 def part_of(kind, named):
@@ -191,22 +233,30 @@ def part_of(kind, named):
 
 
 class Box:
-    """Settings, memory, reply buffer and two sockets."""
+    """Settings, memory, two sockets and a reply buffer, as they are lent."""
 
-    def __init__(self):
+    def __init__(self, memory_length=MEMORY_LENGTH, buffer_length=LONGEST):
         self.settings = Settings()
-        self.memory = bytearray(MEMORY_LENGTH)  # "Fresh memory is all zero."
-        self.edit = memoryview(self.memory)[EDIT_START:]
-        # "The reply buffer has at least 5,193."
-        self.reply = bytearray(LONGEST)
+        self.memory = bytearray(memory_length)  # "Fresh memory is all zero."
+        self.edit = memoryview(self.memory)[EDIT_START:MEMORY_LENGTH]
         self.receivers = (Receiver(), Receiver())  # "Two sockets, 0 and 1."
+        self.receive = (bytearray(buffer_length), bytearray(buffer_length))
+        self.reply = bytearray(buffer_length)
+        # of each buffer, how many first bytes a call is lent
+        self.lent = list(LEAST)
+
+    def is_short(self, *buffers):
+        """Say whether one of these buffers is lent too short."""
+        return any(self.lent[buffer] < LEAST[buffer] for buffer in buffers)
 
     def whole(self, message: bytes) -> tuple:
         """Judge a message handed over at once: (number, reply length)."""
-        # "32 for a setting, then 10 if over 5,193 bytes, then 11 ...; then
-        # as above"
+        # "30 for the memory or the reply buffer, 32 for a setting, then 10
+        # if over 5,193 bytes, then 11 ...; then as above"
+        if self.is_short(MEMORY, REPLY):
+            return TOO_SHORT, 0
         if not self.settings.in_range():
-            return BAD_SETTING, 0
+            return NOT_SOUND, 0
         if len(message) > LONGEST:
             return TOO_LONG, 0
         if not is_framed(message):
@@ -215,18 +265,29 @@ class Box:
 
     def take(self, socket: int, byte: int) -> tuple:
         """Take one byte on one socket: (number, reply length)."""
+        # a number that is no socket's is lent the second one's
+        own = 0 if socket == 0 else 1
+        receiver = self.receivers[own]
         # "A call tests 30, 31, 32 in that order, then takes the byte."
+        if self.is_short(MEMORY, RECEIVE[own], REPLY):
+            return TOO_SHORT, 0
         if socket not in (0, 1):
             return NO_SOCKET, 0
-        if not self.settings.in_range():
-            return BAD_SETTING, 0
-        number, message = self.receivers[socket].take(byte)
-        if not message:
-            return number, 0
-        if message[0] == START:
-            return self.judge_sysex(message)
+        if not (receiver.is_sound() and self.settings.in_range()):
+            return NOT_SOUND, 0
+        number, sysex, channel = receiver.take(byte, self.receive[own])
+        if sysex is not None:
+            return self.judge_sysex(sysex)
         # "The reply length is 0 unless the number is 2."
-        return self.judge_channel(*message), 0
+        if channel is not None:
+            return self.judge_channel(*channel), 0
+        return number, 0
+
+    def back(self, controller: int) -> tuple:
+        """Return the value that a controller shows, or why it shows none."""
+        # where memory is too short, so is what is lent of the edit buffer
+        lent = max(self.lent[MEMORY] - EDIT_START, 0)
+        return back(controller, self.edit[:lent])
 
     def judge_channel(self, status, first, second=0):
         """Return the number of a finished channel message."""
@@ -238,7 +299,7 @@ class Box:
         return apply(first, second, self.edit)
 
     def judge_sysex(self, message):
-        """Judge a SysEx that is framed and not too long."""
+        """Judge a finished SysEx that is not too long."""
         # "A finished SysEx is tested 10, 11, 12, 13, 14, 15, 16"
         if is_identity(message):
             return self.identify(message[2])

@@ -1,7 +1,8 @@
 """Check controllers.py and box.py against the bench cases of document 01."""
 
-from box import Box
+from box import Box, Receiver
 from controllers import TABLE, apply, back, join, read, scale, split, store
+from lent import SOUND, UNSOUND
 
 LONG = (26, 27, 28)  # "30 and 62, bytes 26 to 28"
 
@@ -186,6 +187,15 @@ def check_listing():
            [(2, 3, 0), (5, 3, 0), (11, 2, 17), (13, 21, 0)])
 
 
+def check_receivers():
+    """Receivers at the borders of being sound."""
+    for listed, wanted in ((SOUND, True), (UNSOUND, False)):
+        for parts in listed:
+            receiver = Receiver()
+            vars(receiver).update(parts)
+            expect(f'{parts} is sound', receiver.is_sound(), wanted)
+
+
 def check():
     """Raise on the first wrong case."""
     expect('"These 49 controllers are all"', len(TABLE), 49)
@@ -197,6 +207,7 @@ def check():
     check_calls()
     check_forms()
     check_listing()
+    check_receivers()
 
 
 check()

@@ -1,0 +1,286 @@
+"""Scripts at random: fragments of bytes on both sockets, turns between."""
+
+from box import ALL, EDIT, LEAST, MEMORY_LENGTH, PROGRAM, START
+from controllers import TABLE
+from judging import WRONG_SETTINGS
+from lent import (NO_CONTROLLERS, NO_SOCKETS, SOUND, UNSOUND, VALUES, fill,
+                  numbers_for, select)
+from messages import (HALVES, changed, dump, edit_with, identity, noise,
+                      request, resized, wave, waves)
+from player import MEMORY_ROOM, PARTS, ROOMS
+
+REAL_TIME = range(0xF8, 0x100)  # "F8 to FF"
+BORDERS = (0, 1, 15, 16, 27, 28, 63, 64, 126, 127)  # of values
+
+
+# Fragments: bytes that one socket sends in a row
+
+
+def move(chance):
+    """Return a controller message, most often one in the table."""
+    return bytes((0xB0, chance.choice((*TABLE, 0, 6, 127)),
+                  chance.choice((*BORDERS, chance.randrange(128)))))
+
+
+def running(chance):
+    """Return a controller message without its status byte."""
+    return move(chance)[1:]
+
+
+def selecting(chance):
+    """Return byte 46 set, then a shared controller."""
+    return bytes((0xB0, 19, chance.randrange(17), chance.randrange(49, 60),
+                  chance.randrange(128)))
+
+
+def asking(chance):
+    """Return a request; all programs are asked for less often."""
+    program = request(PROGRAM, chance.randrange(0x26))
+    return chance.choice((
+        request(EDIT), request(EDIT), program, program, program,
+        request(ALL), *(identity(channel) for channel in (0, 5, 0x7F))))
+
+
+def storing(chance):
+    """Return a dump of a program or of the edit buffer."""
+    data = noise(chance.getrandbits(32), HALVES)
+    version = chance.choice((0, 0, 0, 0, 0, 0, 0, 1))
+    return chance.choice((
+        dump(EDIT, data, version=version),
+        dump(PROGRAM, data, chance.randrange(0x25), version=version),
+        edit_with({46: chance.randrange(17)})))
+
+
+def storing_all(chance):
+    """Return a dump of all programs."""
+    return dump(ALL, waves(chance.getrandbits(32)))
+
+
+def begun(chance):
+    """Return the beginning of a message."""
+    message = chance.choice((asking, storing))(chance)
+    return message[:chance.randrange(1, len(message))]
+
+
+def damage(chance, message):
+    """Return a message with a byte changed, cut out or put in."""
+    # the fields in front are hit more often than their share
+    place = chance.randrange(chance.choice((6, min(len(message), 9),
+                                            len(message))))
+    byte = chance.randrange(chance.choice((2, 16, 128, 256)))
+    return chance.choice((
+        changed(message, place, byte), message[:place] + message[place + 1:],
+        message[:place] + bytes((byte,)) + message[place:],
+        resized(message, len(message) + chance.choice((-1, 1)))))
+
+
+def damaged(chance):
+    """Return a damaged request or dump."""
+    return damage(chance, chance.choice((asking, storing))(chance))
+
+
+def damaged_all(chance):
+    """Return a dump of all programs that is damaged, or cut at its end."""
+    message = storing_all(chance)
+    return chance.choice((damage(chance, message), message[:-1],
+                          resized(message, len(message) + 1)))
+
+
+def other_kind(chance):
+    """Return a channel message of any kind on any channel."""
+    return bytes((chance.randrange(0x80, START), chance.randrange(128),
+                  chance.randrange(128)))
+
+
+def stray(chance):
+    """Return a byte above 0x7F, most often F0 or above."""
+    return bytes((chance.randrange(chance.choice((0x80, 0xF0, 0xF0)),
+                                   0x100),))
+
+
+# How often each fragment comes.
+FRAGMENTS = {
+    move: 60, running: 60, selecting: 40, asking: 40, storing: 12, begun: 20,
+    damaged: 20, other_kind: 20, stray: 20, storing_all: 1, damaged_all: 1,
+}
+
+
+def fragment(chance):
+    """Return a fragment."""
+    make, = chance.choices(tuple(FRAGMENTS), FRAGMENTS.values())
+    return make(chance)
+
+
+# Turns: what else happens between two bytes
+
+
+def add_calls(script, chance):
+    """A few calls of any kind."""
+    for _ in range(chance.randrange(1, 5)):
+        call = chance.choice((
+            lambda: script.send(chance.randrange(2), stray(chance)),
+            lambda: script.send(chance.randrange(2), asking(chance)[:3]),
+            lambda: script.send(chance.choice(NO_SOCKETS), stray(chance)),
+            lambda: script.add('W'),
+            lambda: script.back(chance.choice(tuple(TABLE)))))
+        call()
+
+
+def turn_settings(script, chance):
+    """Set channel, omni and a revision byte within their ranges."""
+    script.settings(*chance.choice(((0, 0), (0, 0), (0, 1), (5, 0))))
+    script.revision(chance.randrange(256), chance.randrange(128))
+
+
+def turn_wrong(script, chance):
+    """A few calls with settings of which one at least is out of its range."""
+    script.settings(chance.choice((0, 15, 16, 0xFF)),
+                    chance.choice((0, 1, 2, 0xFF)))
+    script.add(*chance.choice(WRONG_SETTINGS))
+    add_calls(script, chance)
+    script.settings_back()
+
+
+def turn_short(script, chance):
+    """A few calls with a buffer too short."""
+    buffer = chance.randrange(len(ROOMS))
+    script.lend(buffer, chance.choice((0, 1, chance.randrange(LEAST[buffer]),
+                                       LEAST[buffer] - 1)))
+    add_calls(script, chance)
+    script.lend_back(buffer)
+
+
+def turn_long(script, chance):
+    """Lend more of a buffer, or as much as must be."""
+    buffer = chance.randrange(len(ROOMS))
+    script.lend(buffer, chance.randrange(LEAST[buffer], ROOMS[buffer] + 9))
+
+
+def turn_unsound(script, chance):
+    """A few calls with a receiver that is not sound, then a sound one."""
+    socket = chance.randrange(2)
+    script.receiver(socket, **chance.choice(UNSOUND))
+    add_calls(script, chance)
+    script.receiver(socket, **chance.choice(SOUND))
+
+
+def turn_receiver(script, chance):
+    """Set a receiver, to a sound one or to any bits for a few calls."""
+    socket = chance.randrange(2)
+    some = (0, 0, 1, 1, 2, 0x7F, 0x80, 0xB0, 0xEF, 0xFF)
+    script.receiver(socket, chance.choice((0, 1, 9, 153, 5191, 5192, 5193)),
+                    **{name: chance.choice(some) for name in PARTS.values()})
+    add_calls(script, chance)
+    script.receiver(socket, **chance.choice(SOUND))
+
+
+def turn_stale(script, chance):
+    """Open a SysEx over what stands in a receive buffer."""
+    script.receiver(chance.randrange(2), inside=1, stored=chance.choice(
+        (1, 5, 7, 8, 152, 153, 5191, 5192)))
+
+
+def turn_socket(script, chance):
+    """Send bytes on no socket, or on what may be one."""
+    wide = chance.randrange(3) + (chance.randrange(256) << 24)
+    script.send(chance.choice((*NO_SOCKETS, wide)), asking(chance)[:4])
+
+
+def turn_message(script, chance):
+    """Make the message a good one or a damaged one."""
+    seed = chance.randrange(16)
+    script.put(chance.choice((
+        asking(chance), damaged(chance), edit_with({46: seed}, seed),
+        dump(PROGRAM, wave(seed, HALVES), chance.randrange(0x26)))))
+
+
+def turn_long_message(script, chance):
+    """Make the message a long one, good or damaged, and hand it over."""
+    script.put(chance.choice((storing_all, damaged_all))(chance))
+    script.add('W')
+    script.add('M', chance.randrange(2))
+
+
+def turn_length(script, chance):
+    """Change the length of the message."""
+    script.edit('L', chance.choice((0, 1, 2, 8, 9, 153, 154, 5193, 5194)))
+
+
+def turn_byte(script, chance):
+    """Change a byte of the message, most often to a half byte."""
+    script.edit('B', chance.randrange(script.message.length + 1),
+                chance.randrange(chance.choice((16, 16, 256))))
+
+
+def turn_whole(script, _):
+    """Hand the message over whole."""
+    script.add('W')
+
+
+def turn_feed(script, chance):
+    """Send the message on a socket."""
+    script.add('M', chance.randrange(2))
+
+
+def turn_scale(script, chance):
+    """Ask for formulas, in the table and out of it."""
+    script.controller(chance.choice((*TABLE, *NO_CONTROLLERS,
+                                     chance.getrandbits(32))))
+    script.scale(chance.choice(VALUES), chance.randrange(130),
+                 chance.randrange(256) + (chance.randrange(256) << 24))
+
+
+def turn_back(script, chance):
+    """Ask what controllers show."""
+    script.back(*chance.choices((*TABLE, *NO_CONTROLLERS), k=4))
+
+
+def turn_field(script, chance):
+    """Write a controller's field under some effect, and show it back."""
+    controller, rule = chance.choice(tuple(TABLE.items()))
+    numbers = tuple(rule.shown) or range(0, 98304, 6)
+    select(script, chance.choice((*(rule.chosen_by or (0,)), 6)))
+    fill(script, rule.field, chance.choice((
+        *numbers_for(rule), chance.choice(numbers) + chance.randrange(2))))
+    script.back(controller)
+
+
+def turn_poke(script, chance):
+    """Set a byte of memory, beyond what must be lent too."""
+    script.poke(chance.choice((chance.randrange(MEMORY_LENGTH),
+                               chance.randrange(MEMORY_LENGTH, MEMORY_ROOM))),
+                chance.randrange(256))
+
+
+# How often each turn comes.
+TURNS = {
+    turn_settings: 4, turn_wrong: 3, turn_short: 4, turn_long: 3,
+    turn_unsound: 4, turn_receiver: 3, turn_stale: 2, turn_socket: 2,
+    turn_message: 5, turn_long_message: 1, turn_length: 1, turn_byte: 3,
+    turn_whole: 4, turn_feed: 6, turn_scale: 4, turn_back: 3, turn_field: 6,
+    turn_poke: 3,
+}
+
+
+def turn(script, chance):
+    """Take a turn."""
+    do, = chance.choices(tuple(TURNS), TURNS.values())
+    do(script, chance)
+
+
+def add_random(script, chance, commands, calm):
+    """Fragments on both sockets; a turn every so many runs of bytes."""
+    pending = (bytearray(), bytearray())
+    end = len(script.commands) + 4 * commands
+    turn_message(script, chance)
+    while len(script.commands) < end:
+        socket = chance.randrange(2)
+        for _ in range(chance.choice((1, 1, 2, 40))):
+            if not pending[socket]:
+                pending[socket].extend(fragment(chance))
+            script.send(socket, (pending[socket].pop(0),))
+            # "in the middle of a message too"
+            if chance.randrange(20) == 0:
+                script.send(socket, (chance.choice(REAL_TIME),))
+        if chance.randrange(calm) == 0:
+            turn(script, chance)

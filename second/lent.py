@@ -1,0 +1,288 @@
+"""The script of what is lent, scaled and shown back: 30, 31, 32 and 40."""
+
+from itertools import product
+
+from box import (ALL, EDIT, EDIT_START, LEAST, LONGEST, MEMORY,
+                 MEMORY_LENGTH, MOST_STORED, RECEIVE, REPLY, START)
+from controllers import SELECTOR, TABLE
+from judging import wrong_settings
+from messages import HALVES, dump, edit_with, identity, noise, request, wave
+from player import MEMORY_ROOM, MESSAGE_ROOM, ROOMS
+from script import Script
+
+FULL = {'stored': MOST_STORED, 'inside': 1}
+HOLDING = {'running': 0xB0, 'held': 1}
+
+# Receivers that are sound, at their borders.
+SOUND = (
+    {}, {'stored': 1, 'inside': 1}, {'stored': MOST_STORED - 1, 'inside': 1},
+    FULL, {**FULL, 'over': 1},
+    *({'running': status} for status in (0x80, 0xB0, 0xC0, 0xDF, 0xEF)),
+    *({'running': status, 'held': 1, 'waiting': byte}
+      for status in (0x80, 0xBF, 0xE0, 0xEF) for byte in (0, 0x7F)),
+)
+# Receivers that are not, in every way.
+UNSOUND = (
+    # "its stored count is 0 to 5,192"
+    *({'stored': count, 'inside': 1} for count in (5193, 0x8001, 0xFFFF)),
+    # "at least 1 exactly when a SysEx is open"
+    {'inside': 1}, {'stored': 1}, {'stored': 0x100}, {'stored': MOST_STORED},
+    # a flag is 0 or 1
+    *({**sound, flag: value} for value in (2, 0xFF) for sound, flag in (
+        (FULL, 'inside'), (FULL, 'over'), (HOLDING, 'held'),
+        ({}, 'inside'), ({}, 'over'), ({}, 'held'))),
+    # "running status is none or 80 to EF"
+    *({'running': status} for status in (1, 0x7F, 0xF0, 0xF7, 0xF8, 0xFF)),
+    # "and none while one is open"
+    {**FULL, 'running': 0xB0}, {'stored': 1, 'inside': 1, 'running': 0x80},
+    # "a waiting data byte is at most 0x7F"
+    {**HOLDING, 'waiting': 0x80}, {**HOLDING, 'waiting': 0xFF},
+    # "and stands only under a two-byte status"
+    *({'running': status, 'held': 1}
+      for status in (0, 0xC0, 0xCF, 0xD0, 0xDF)),
+    {**FULL, 'held': 1},
+    # where none waits its field is 0
+    {'waiting': 1}, {'running': 0xB0, 'waiting': 0x7F},
+    {**FULL, 'waiting': 1},
+    # "too long is marked only on an open SysEx with 5,192 stored"
+    {'over': 1}, {'running': 0xB0, 'over': 1},
+    {'stored': MOST_STORED, 'over': 1},
+    *({'stored': count, 'inside': 1, 'over': 1}
+      for count in (1, MOST_STORED - 1)),
+)
+# Numbers that are no socket's; some would be one's if they were cut.
+NO_SOCKETS = (2, 3, 0xFF, 1 << 24, (1 << 24) + 1, 0x80000000, 0xFF0000FF)
+# Controllers that would be in the table if they were cut, and others.
+NO_CONTROLLERS = (0, 6, 120, 127, 128, 256 + 13, 65536 + 13,
+                  (13 << 16) + 13, 0x8000000D, 0xFFFFFFFF)
+# Values that would be in range if they were cut, and their borders.
+VALUES = (0, 1, 15, 16, 21, 22, 27, 28, 63, 64, 126, 127, 128, 255, 256,
+          65535, 1 << 24, (1 << 24) + 5, (255 << 24) + 127)
+
+
+def add_beyond(script):
+    """Bytes beyond what is lent of memory, not all zero."""
+    for place in range(MEMORY_LENGTH, MEMORY_ROOM):
+        script.poke(place, place % 256)
+
+
+def add_odd(script):
+    """Numbers beyond their range, and ops that are none."""
+    for op in '\0lw\xFF':
+        script.add(op, 0xFF, 0xFF, 0xFF)
+    script.whole(identity(0x7F))
+    script.edit('P', 7, 1)                  # from beyond the length
+    script.edit('B', MESSAGE_ROOM + 2, 0)   # the channel asked for
+    script.add('W')
+    script.edit('L', 65535)
+    script.add('W')
+    script.add('R', 0xFE, 0xFF, 0x55)       # revision byte 2
+    script.poke(MEMORY_ROOM + 9, 0x77)
+    script.lend(7, LEAST[REPLY])
+    for part in (7, 8 + 4, 0xFF):           # no part, running, no part
+        script.add('E', part, 3, 0xB0)
+    script.send_hex(1, '0D 7F F7')
+    script.whole(identity(0x7F))
+    script.settings_back()
+
+
+def add_receivers(script, socket, receivers, text):
+    """Bytes to each of some receivers, then a fresh one."""
+    for parts in receivers:
+        script.receiver(socket, **parts)
+        script.send_hex(socket, text)
+    script.receiver(socket)
+
+
+def add_stale(script, socket):
+    """A SysEx over what stands in the receive buffer."""
+    script.send(socket, edit_with({46: 2}))
+    script.send(socket, request(EDIT))
+    # the request's bytes in front of the dump's, shorter and longer
+    for count in (1, 2, 7, 8, 152, 153, MOST_STORED):
+        script.receiver(socket, stored=count, inside=1)
+        script.send_hex(socket, 'F7')
+
+
+def add_lengths(script, buffer, lengths):
+    """Every call with a buffer of several lengths."""
+    for length in lengths:
+        script.lend(buffer, length)
+        for socket in (0, 1, 2):
+            script.send_hex(socket, 'F8 B0 0D 11')
+        script.whole(identity(0x7F))
+        script.back(13, 0)
+        script.scale(5)
+    script.lend_back(buffer)
+
+
+def lengths_of(buffer):
+    """Return lengths around the least that a buffer must have."""
+    least = LEAST[buffer]
+    return 0, 1, least - 1, least, least + 1, ROOMS[buffer], 65535
+
+
+def add_long_buffers(script, asked):
+    """A full receive buffer, a dump and a request, with more lent."""
+    for buffer, room in enumerate(ROOMS):
+        script.lend(buffer, room)
+    for socket in (0, 1):
+        # "At most 5,192 are stored": a longer buffer does not raise it
+        script.receiver(socket, **FULL)
+        script.send_hex(socket, '05 06 F7')
+        script.feed(socket, dump(EDIT, noise(socket, HALVES)))
+        script.feed(socket, asked)
+    for buffer in range(len(ROOMS)):
+        script.lend_back(buffer)
+
+
+def add_order(script):
+    """Every choice of reasons for 30, 31 and 32 at once."""
+    choices = product((False, True), repeat=5)
+    for short, wrong_socket, unsound, wrong_setting, buffer in choices:
+        own = 1 if wrong_socket else 0
+        tested = RECEIVE[own] if buffer else MEMORY
+        if short:
+            script.lend(tested, LEAST[tested] - 1)
+        if wrong_setting:
+            script.settings(16, 0)
+        script.receiver(own, **UNSOUND[0] if unsound else FULL)
+        script.send_hex(2 if wrong_socket else 0, 'F7')
+        script.lend_back(tested)
+        script.settings(0, 0)
+    for socket in (0, 1):
+        script.receiver(socket)
+
+
+def add_other(script):
+    """What the other socket has lent does not matter."""
+    for socket, other in ((0, 1), (1, 0)):
+        script.lend(RECEIVE[other], 0)
+        script.receiver(other, **UNSOUND[-1])
+        script.send(socket, identity(0x7F))
+        script.whole(identity(0x7F))
+        script.lend_back(RECEIVE[other])
+        script.receiver(other)
+
+
+def add_whole_order(script):
+    """Every choice of reasons for 30, 32, 10 and 11 at once."""
+    choices = product((MEMORY, REPLY), *((False, True),) * 4)
+    for buffer, short, wrong_setting, long, unframed in choices:
+        if short:
+            script.lend(buffer, LEAST[buffer] - 1)
+        if wrong_setting:
+            script.revision(3, 0x80)
+        message = b'\xF0' + wave(3, LONGEST if long else 20) + b'\xF7'
+        script.whole(message[1 if unframed else 0:])
+        script.lend_back(buffer)
+        script.settings_back()
+
+
+def add_no_sockets(script, numbers):
+    """Bytes on sockets that are none, with something half received."""
+    script.send_hex(0, 'B0 0D')
+    script.send_hex(1, 'F0 7E')
+    for socket in numbers:
+        script.send_hex(socket, 'F8 7F B0 F7')
+        script.feed(socket, identity(0x7F))
+    script.send_hex(0, '61 F7')
+    script.send_hex(1, '7F 06 01 F7')
+
+
+def add_wrong_settings(script):
+    """Settings out of range: every call is 32, but K and D."""
+    for _ in wrong_settings(script, script.whole):
+        for socket in (0, 1):
+            script.send_hex(socket, 'F8 B0')
+        script.whole(identity(0x7F))
+        script.scale(5)
+        script.back(13)
+
+
+def add_refused(script):
+    """Messages of which each byte is refused before it is taken."""
+    for socket in (0, 1):
+        for byte in bytes.fromhex('F0 7E 7F 06 01 F7 B0 0D 63 F7'):
+            script.settings(0, 2)
+            script.send(socket, (byte, START, 0xF8))
+            script.settings(0, 0)
+            script.send(socket, (byte,))
+
+
+def add_scaling(script, controllers, values):
+    """Formulas at values, in the table and out of it, in range and out."""
+    for controller in controllers:
+        script.controller(controller)
+        script.scale(*values)
+
+
+def fill(script, field, number):
+    """Write a number into a field of the edit buffer."""
+    for place in field:
+        script.poke(EDIT_START + place, number % 256)
+        number //= 256
+
+
+def select(script, setting):
+    """Set byte 46."""
+    script.poke(EDIT_START + SELECTOR, setting)
+
+
+def numbers_for(rule):
+    """Return numbers that a controller's values give, and some others."""
+    if rule.formula is None:
+        # "6 x m with m up to 16,383"
+        return 0, 1, 6, 762, 768, 49158, 98298, 98299, 98304, 0xFFFFFF
+    given = {rule.formula(value) for value in (0, 1, 64, rule.top)}
+    more = {number + 1 for number in given} | {256 ** len(rule.field) - 1}
+    return sorted(given | more)
+
+
+def add_back(script, controller):
+    """What a controller shows of several numbers, under several effects."""
+    rule = TABLE[controller]
+    script.controller(controller)
+    for setting in (*(rule.chosen_by or (0,)), 6):
+        select(script, setting)
+        for number in numbers_for(rule):
+            fill(script, rule.field, number)
+            script.add('D')
+
+
+def add_back_order(script):
+    """Every choice of reasons for 30, 17, 19 and 40 at once."""
+    choices = product((False, True), repeat=4)
+    for short, unknown, unselected, no_value in choices:
+        if short:
+            script.lend(MEMORY, LEAST[MEMORY] - 1)
+        select(script, 1 if unselected else 2)
+        fill(script, (48,), 2 if no_value else 1)
+        script.back(65536 + 55 if unknown else 55)
+        script.lend_back(MEMORY)
+
+
+def make_lent():
+    """Return the script of what is lent, scaled and shown back."""
+    script = Script()
+    add_beyond(script)
+    add_odd(script)
+    for socket in (0, 1):
+        add_receivers(script, socket, UNSOUND, 'F8 0D F7 F0 B0')
+        add_receivers(script, socket, SOUND, 'F8 05 0D F7 B0')
+        add_stale(script, socket)
+    for buffer in range(len(ROOMS)):
+        add_lengths(script, buffer, lengths_of(buffer))
+    add_long_buffers(script, request(ALL))
+    add_order(script)
+    add_other(script)
+    add_whole_order(script)
+    add_no_sockets(script, NO_SOCKETS)
+    add_wrong_settings(script)
+    add_refused(script)
+    add_scaling(script, (*TABLE, *NO_CONTROLLERS), VALUES)
+    for controller in TABLE:
+        add_back(script, controller)
+    script.back(*NO_CONTROLLERS)
+    add_back_order(script)
+    return bytes(script.commands)

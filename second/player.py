@@ -1,0 +1,228 @@
+"""Play a script in the form of REPLAY.md; the answers are box.py's."""
+
+from collections import Counter
+from operator import mul
+
+from box import REPLIED, TAKEN, Box
+from controllers import scale
+
+MESSAGE_ROOM = 8192  # "a message buffer of 8,192 bytes"
+MEMORY_ROOM = 2700   # "memory of 2,700 bytes"
+BUFFER_ROOM = 5220   # receive and reply buffers "of 5,220 bytes"
+ROOMS = (MEMORY_ROOM, BUFFER_ROOM, BUFFER_ROOM, BUFFER_ROOM)
+REFUSED = 65536      # "the value, or 65,536 + the refusal number"
+VALUE = 'value'      # stands for all values among the numbers given
+# "Numbers the box returns", and a row for values
+ROWS = (*range(5), *range(10, 23), 30, 31, 32, 40, VALUE)
+# "stored + 2^16 x inside + 2^24 x over + 2^32 x running + 2^40 x held + 2^48
+# x waiting"
+PLACES = {'stored': 0, 'inside': 16, 'over': 24, 'running': 32, 'held': 40,
+          'waiting': 48}
+# "2 inside, 3 over, 4 running, 5 held, 6 waiting"
+PARTS = {2: 'inside', 3: 'over', 4: 'running', 5: 'held', 6: 'waiting'}
+BLOCK = 60           # bytes that a digest weighs at once
+
+
+def wave(seed, length):
+    """Return half bytes as P writes them from place 0."""
+    # why: 16 places on they are the same again
+    turn = bytes((seed + 7 * place) % 16 for place in range(16))
+    return (turn * (length // 16 + 1))[:length]
+
+
+class Message:
+    """The message buffer and its length."""
+
+    def __init__(self):
+        self.buffer = bytearray(MESSAGE_ROOM)
+        self.length = 0
+
+    def edit(self, op, n, v):
+        """Do L, B or P."""
+        if op == 'L':
+            # "a larger n is taken as 8,192"
+            self.length = min(n, MESSAGE_ROOM)
+        elif op == 'B':
+            # "message byte n % 8,192 is v"
+            self.buffer[n % MESSAGE_ROOM] = v
+        elif n < self.length:
+            # "from place n up to (not including) the length become
+            # (v + 7 x place) % 16"
+            self.buffer[n:self.length] = wave(v + 7 * n, self.length - n)
+
+    def content(self):
+        """Return "the first `length` bytes of the message"."""
+        return bytes(self.buffer[:self.length])
+
+
+class Digest:
+    """The sum over all places i of (i + 1) x byte i of a buffer."""
+
+    def __init__(self, buffer):
+        self.buffer = buffer
+        self.seen = bytes(len(buffer))
+        self.sum = 0
+
+    def now(self):
+        """Return the digest of the buffer as it stands."""
+        # why: most calls change little, and comparing is far quicker than
+        # weighing every byte again
+        if self.buffer != self.seen:
+            old, self.seen = self.seen, bytes(self.buffer)
+            for start in range(0, len(old), BLOCK):
+                part = slice(start, start + BLOCK)
+                if old[part] != self.seen[part]:
+                    self.sum += (weigh(self.seen[part], start)
+                                 - weigh(old[part], start))
+        return self.sum
+
+
+def weigh(data, start):
+    """Return the part that bytes from a place on have in the digest."""
+    return sum(map(mul, range(start + 1, start + 1 + len(data)), data))
+
+
+class Player:
+    """The program that plays a script."""
+
+    def __init__(self):
+        self.message = Message()
+        self.box = Box(MEMORY_ROOM, BUFFER_ROOM)
+        # "of memory, of the reply buffer, of receive buffers 0 and 1"
+        self.digests = [Digest(buffer) for buffer in (
+            self.box.memory, self.box.reply, *self.box.receive)]
+        self.controller = 0
+        self.calls = 0
+        self.given = Counter()  # how many calls gave (letter, number)
+        self.changing = {'Y': self.poke, 'C': self.set_channel,
+                         'R': self.set_revision, 'Z': self.lend,
+                         'E': self.set_receiver, 'N': self.set_controller}
+        self.calling = {'W': self.whole, 'S': self.take, 'M': self.feed,
+                        'K': self.scale, 'D': self.back}
+
+    def play(self, op, a, b, v):
+        """Do one command; return its lines."""
+        if op in self.calling:
+            return self.calling[op](a, b, v)
+        if op in self.changing:
+            self.changing[op](a, b, v)
+        elif op in 'LBP':
+            self.message.edit(op, a + 256 * b, v)
+        # "a command with an op that is not listed" is ignored
+        return ()
+
+    def poke(self, a, b, v):
+        """Do Y: "memory byte n % 2,700 is v"."""
+        self.box.memory[(a + 256 * b) % MEMORY_ROOM] = v
+
+    def set_channel(self, a, b, _):
+        """Do C: "channel is a, omni is b"."""
+        self.box.settings.channel, self.box.settings.omni = a, b
+
+    def set_revision(self, a, _, v):
+        """Do R: "revision byte a % 4 is v"."""
+        self.box.settings.revision[a % 4] = v
+
+    def lend(self, a, b, v):
+        """Do Z: "the first n bytes are lent", "at most its own length"."""
+        self.box.lent[v % 4] = min(a + 256 * b, ROOMS[v % 4])
+
+    def set_receiver(self, a, b, v):
+        """Do E: "part a % 8 of the receiver of socket b % 2 is v"."""
+        receiver = self.box.receivers[b % 2]
+        part = a % 8
+        if part == 0:
+            receiver.stored = receiver.stored & 0xFF00 | v
+        elif part == 1:
+            receiver.stored = receiver.stored & 0xFF | v << 8
+        elif part in PARTS:
+            setattr(receiver, PARTS[part], v)
+
+    def set_controller(self, a, b, _):
+        """Do N: "(65,536 x itself + n) % 2^32"."""
+        self.controller = (65536 * self.controller + a + 256 * b) % 2**32
+
+    def whole(self, *_):
+        """Do W."""
+        return self.lines('W', *self.box.whole(self.message.content()))
+
+    def take(self, a, b, v):
+        """Do S: "byte v on socket a + 2^24 x b"."""
+        number, length = self.box.take(a + (b << 24), v)
+        return self.lines('S', number, length)
+
+    def feed(self, a, b, _):
+        """Do M: an S for each byte of the message."""
+        return [line for byte in self.message.content()
+                for line in self.take(a, b, byte)]
+
+    def scale(self, a, b, v):
+        """Do K: "for value n + 2^24 x v"."""
+        value = a + 256 * b + (v << 24)
+        return self.asked('K', *scale(self.controller, value))
+
+    def back(self, *_):
+        """Do D."""
+        return self.asked('D', *self.box.back(self.controller))
+
+    def count(self, letter, number):
+        """Count a call and what it gave; return its count."""
+        self.given[letter, number] += 1
+        self.calls += 1
+        return self.calls - 1
+
+    def lines(self, letter, number, length):
+        """Return the lines of a call of W, S or M."""
+        at = self.count(letter, number)
+        # "a line where the number is not 0": a W never gives 0
+        if number == TAKEN:
+            return ()
+        digests = (digest.now() for digest in self.digests)
+        receivers = map(as_number, self.box.receivers)
+        line = tabbed(letter, at, number, length, *digests, *receivers)
+        if number != REPLIED:
+            return (line,)
+        # "a further line has the letter r, a tab and the reply's bytes"
+        return line, tabbed('r', self.box.reply[:length].hex())
+
+    def asked(self, letter, kind, number):
+        """Return the lines of a K or a D."""
+        if kind == VALUE:
+            return (tabbed(letter, self.count(letter, VALUE), number),)
+        at = self.count(letter, number)
+        return (tabbed(letter, at, REFUSED + number),)
+
+    def end(self):
+        """Return the lines "at the end of the script"."""
+        return tabbed('m', self.box.memory.hex()), tabbed('c', self.calls)
+
+
+def as_number(receiver):
+    """Return a receiver "as one number"."""
+    return sum(getattr(receiver, name) << shift
+               for name, shift in PLACES.items())
+
+
+def tabbed(*fields):
+    """Return a line, its fields "parted by one tab"."""
+    return '\t'.join(map(str, fields)) + '\n'
+
+
+def play(script):
+    """Play a script; return its lines and the player as it is left."""
+    player = Player()
+    lines = []
+    # "A rest of fewer than 4 bytes at the end is ignored"
+    for start in range(0, len(script) - 3, 4):
+        op, a, b, v = script[start:start + 4]
+        lines.extend(player.play(chr(op), a, b, v))
+    lines.extend(player.end())
+    return lines, player
+
+
+def tally(given):
+    """Return how many calls gave each row, from counts by letter too."""
+    rows = Counter()
+    for (_, number), calls in given.items():
+        rows[number] += calls
+    return rows

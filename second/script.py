@@ -1,0 +1,121 @@
+"""Write a script in the form of REPLAY.md."""
+
+from box import LEAST, Settings
+from messages import SEGMENT
+from player import PARTS, Message, wave
+
+WORTH_P = 8  # so many changes at once are worth a P
+REVISION = bytes(Settings().revision)
+
+
+class Script:
+    """The commands written so far, and the message that they leave."""
+
+    def __init__(self):
+        self.commands = bytearray()
+        self.message = Message()
+
+    def add(self, op, a=0, b=0, v=0):
+        """Write one command."""
+        self.commands += bytes((ord(op), a, b, v))
+
+    def edit(self, op, n, v=0):
+        """Write L, B or P, and do it."""
+        self.add(op, n % 256, n // 256, v)
+        self.message.edit(op, n, v)
+
+    def put(self, message):
+        """Make the message these bytes, with few commands."""
+        self.edit('L', len(message))
+        place = self.next_change(message, 0)
+        while place is not None:
+            if self.gain(message, place) < WORTH_P:
+                self.edit('B', place, message[place])
+            else:
+                self.edit('P', place, (message[place] - 7 * place) % 16)
+            place = self.next_change(message, place + 1)
+
+    def next_change(self, message, start):
+        """Return the next place where the buffer is to change, or None."""
+        buffer = self.message.buffer
+        return next((place for place in range(start, len(message))
+                     if buffer[place] != message[place]), None)
+
+    def gain(self, message, place):
+        """Count the changes that a P here gets right in a row."""
+        changes = 0
+        part = slice(place, place + SEGMENT)
+        for old, new, written in zip(self.message.buffer[part], message[part],
+                                     wave(message[place], SEGMENT)):
+            if new != written:
+                break
+            changes += new != old
+        return changes
+
+    def settings(self, channel, omni):
+        """Set channel and omni."""
+        self.add('C', channel, omni)
+
+    def revision(self, place, byte):
+        """Set one revision byte."""
+        self.add('R', place, 0, byte)
+
+    def settings_back(self):
+        """Set every setting as it is at first."""
+        self.settings(0, 0)
+        for place, byte in enumerate(REVISION):
+            self.revision(place, byte)
+
+    def poke(self, place, byte):
+        """Set a byte of memory."""
+        self.add('Y', place % 256, place // 256, byte)
+
+    def lend(self, buffer, length):
+        """Lend so many bytes of a buffer from now on."""
+        self.add('Z', length % 256, length // 256, buffer)
+
+    def lend_back(self, buffer):
+        """Lend as much of a buffer as at first."""
+        self.lend(buffer, LEAST[buffer])
+
+    def receiver(self, socket, stored=0, **parts):
+        """Set all of a receiver; a part that is not named is 0."""
+        self.add('E', 0, socket, stored % 256)
+        self.add('E', 1, socket, stored // 256)
+        for part, name in PARTS.items():
+            self.add('E', part, socket, parts.get(name, 0))
+
+    def controller(self, number):
+        """Set the controller's number."""
+        for half in (number >> 16, number & 0xFFFF):
+            self.add('N', half % 256, half // 256)
+
+    def scale(self, *values):
+        """Ask for the controller's formula at values n + 2^24 x v."""
+        for value in values:
+            self.add('K', value % 256, value // 256 % 256, value >> 24)
+
+    def back(self, *controllers):
+        """Ask what controllers show."""
+        for controller in controllers:
+            self.controller(controller)
+            self.add('D')
+
+    def whole(self, message):
+        """Hand a message over whole."""
+        self.put(message)
+        self.add('W')
+
+    def feed(self, socket, message):
+        """Send a message by M on a socket a + 2^24 x b."""
+        self.put(message)
+        self.add('M', socket % 256, socket >> 24)
+
+    def send(self, socket, data):
+        """Send bytes by S on a socket a + 2^24 x b."""
+        for byte in data:
+            self.add('S', socket % 256, socket >> 24, byte)
+
+    def send_hex(self, socket, text):
+        """Send bytes written in hex on a socket by S."""
+        self.send(socket, bytes.fromhex(text))

@@ -1,0 +1,164 @@
+"""Play scripts at random through the C interface, held against box.py.
+
+tests/soak builds the player and calls this; it says what the arguments are.
+"""
+
+import argparse
+import os
+import shlex
+import subprocess
+import sys
+import time
+from collections import Counter
+from itertools import zip_longest
+from pathlib import Path
+from random import Random, SystemRandom
+
+from brief import add_opening
+from chance import add_random
+from player import ROWS, play, tally
+from replay import SCRIPTS, histogram
+from script import Script
+from streams import play_plan
+
+PLAYER = shlex.split(os.environ['PLAYER'])  # the words that run tests/play.c
+PATIENCE = 120     # seconds for one script
+COMMANDS = 4000    # of a script's random part, about
+CALM = (1, 6, 60)  # runs of bytes between two turns, about
+WIDTH = 400        # characters of a line that are shown
+KEPT = Path('target/soak')
+
+
+class Difference(Exception):
+    """The C interface and the second program differ; with the scripts."""
+
+    def __init__(self, said, *scripts):
+        super().__init__(said)
+        self.scripts = scripts
+
+
+class Soak:
+    """What was compared so far."""
+
+    def __init__(self):
+        self.scripts = 0
+        self.printed = 0
+        self.given = Counter()
+
+    def compare(self, script):
+        """Play a script both ways; return its lines where they are equal."""
+        lines, player = play(script)
+        wanted = ''.join(lines).encode()
+        got = play_in_c(script)
+        if got != wanted:
+            raise Difference(first_difference(got, wanted), script)
+        self.scripts += 1
+        self.printed += len(wanted)
+        self.given += player.given
+        return wanted.decode().splitlines()
+
+    def compare_seed(self, seed):
+        """Compare all that a seed makes."""
+        chance = Random(seed)
+        for calm in CALM:
+            script = Script()
+            add_opening(script)
+            add_random(script, chance, COMMANDS, calm)
+            self.compare(bytes(script.commands))
+        for what, one, other, *found in play_plan(chance, self.compare):
+            if found[0] != found[1]:
+                raise Difference(f'{what}: {first_unlike(*found)}', one, other)
+
+    def report(self, seconds):
+        """Print what was compared, and the histogram."""
+        calls = sum(self.given.values())
+        on_sockets = sum(count for (letter, _), count in self.given.items()
+                         if letter == 'S')
+        print(f'{self.scripts} scripts, {calls} calls, {on_sockets} bytes on '
+              f'sockets, {self.printed} bytes printed and compared, '
+              f'{seconds:.0f} s')
+        sys.stdout.writelines(histogram(self.given))
+
+
+def play_in_c(script):
+    """Return what the player prints, and how it failed if it did."""
+    try:
+        run = subprocess.run(PLAYER, input=script, stdout=subprocess.PIPE,
+                             timeout=PATIENCE, check=False)
+    except subprocess.TimeoutExpired:
+        return b'no end\n'
+    if run.returncode != 0:
+        return run.stdout + b'status %d\n' % run.returncode
+    return run.stdout
+
+
+def first_difference(got, wanted):
+    """Say which line differs first."""
+    pairs = zip_longest(got.decode('latin-1').splitlines(),
+                        wanted.decode().splitlines(), fillvalue='nothing')
+    return next(f'line {at}:\n  C:      {one[:WIDTH]}\n'
+                f'  second: {other[:WIDTH]}'
+                for at, (one, other) in enumerate(pairs, 1) if one != other)
+
+
+def first_unlike(found, other):
+    """Say which call differs first."""
+    return next(f'{call}:\n  {found.get(call)}\n  {other.get(call)}'
+                for call in {**found, **other}
+                if found.get(call) != other.get(call))
+
+
+def keep(name, scripts):
+    """Keep scripts in files; yield their paths."""
+    KEPT.mkdir(parents=True, exist_ok=True)
+    for at, script in enumerate(scripts):
+        path = KEPT / f'{name}-{at}.script'
+        path.write_bytes(script)
+        yield str(path)
+
+
+def names(seed):
+    """Yield what to play: one seed, or all scripts and then new seeds."""
+    if seed is not None:
+        yield seed
+        return
+    yield from SCRIPTS
+    while True:
+        yield SystemRandom().getrandbits(48)
+
+
+def compare(soak, name):
+    """Compare a script of replay.py, or all that a seed makes."""
+    try:
+        if name in SCRIPTS:
+            soak.compare(SCRIPTS[name][0]())
+        else:
+            soak.compare_seed(name)
+    except Difference as difference:
+        print(f'difference in {name}', *keep(name, difference.scripts))
+        if name not in SCRIPTS:
+            print(f'again: tests/soak --seed {name}')
+        sys.exit(f'{difference}')
+    except Exception as fault:
+        raise RuntimeError(f'in {name}') from fault
+
+
+def main():
+    """Compare until the time is up; every number must have been given."""
+    parser = argparse.ArgumentParser(prog='tests/soak')
+    parser.add_argument('seconds', nargs='?', type=float, default=60)
+    parser.add_argument('--seed', type=int, help='this one seed alone')
+    given = parser.parse_args()
+    soak, start = Soak(), time.monotonic()
+    for name in names(given.seed):
+        compare(soak, name)
+        if time.monotonic() - start > given.seconds:
+            break
+    soak.report(time.monotonic() - start)
+    missing = {*ROWS} - {*tally(soak.given)}
+    if missing:
+        sys.exit(f'never given: {missing}')
+
+
+if __name__ == '__main__':
+    main()

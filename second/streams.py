@@ -1,0 +1,226 @@
+"""Two sockets and the panel at once: what demand 3 says, held against runs.
+
+A plan has a stream of bytes for each socket and a list of panel messages.
+It is played five times, from the same memory and under the same settings:
+mixed in an order of finishing, mixed otherwise in the same order, mixed in
+another order, and for each of the two orders one message at a time. Both
+receivers start fresh, no call is turned away, every call lends its own
+socket's receiver and buffer, and the settings stay: demand 3's premises.
+
+A call is named by its source and its place there: the place of a byte in
+its socket's stream, or of a message in the panel's list. "Finishing" calls
+are those of the last bytes of finished messages ("A message the panel hands
+over whole is finished at its call"); a byte that cuts a SysEx has a number
+and finishes nothing. Compared are:
+
+any two runs (`Run.own`): "each socket's finished messages depend on that
+socket's bytes alone". For each socket, the same places have a number, and
+each has the same number, reply length, receive buffer and receiver. 3 and 19
+count as one, for which of them a finished controller message gets depends
+on byte 46, and so on what the others finished before it.
+
+two runs in the same order of finishing (`Run.all`): nothing but that order
+matters. Each place has the same number, reply length, reply, receive buffer
+and receiver, each finishing call leaves the same memory and reply buffer,
+and the memory at the end is the same, byte for byte.
+
+a run and one message at a time (`Run.effects`): "The programs, the edit
+buffer and the replies sent are exactly those of carrying out the finished
+messages whole, one at a time, in the order their last bytes arrived." A
+SysEx is handed over whole, a channel message is sent with nothing between
+its bytes. What a socket finishes is found by box.py from that socket's bytes
+alone. Each finishing call has the same number, reply length and reply and
+leaves the same memory. "Unfinished and cut messages have no effect": they
+are left out there.
+"""
+
+from typing import NamedTuple
+
+from box import (ALL, CUT, END_BYTE, LONGEST, MOST_STORED, START, TOO_LONG,
+                 Receiver)
+from chance import REAL_TIME, asking, fragment, storing
+from messages import PAD, dump, edit_with, waves
+from script import Script
+
+SOCKETS, PANEL = (0, 1), 2
+APPLIED, NOT_SELECTED = 3, 19
+
+
+class Answer(NamedTuple):
+    """What a player printed of one call."""
+
+    number: int
+    length: int
+    memory: str         # digests
+    reply_buffer: str
+    receive: str        # of its own socket; empty for the panel
+    receiver: str
+    reply: str          # in hex; empty where none was written
+
+
+def finished(stream):
+    """Return {place: message} of what a socket's bytes alone finish."""
+    receiver, receive = Receiver(), bytearray(LONGEST)
+    messages = {}
+    for place, byte in enumerate(stream):
+        number, sysex, channel = receiver.take(byte, receive)
+        if number == TOO_LONG:
+            # as long as one can tell: one byte at least was dropped
+            sysex = bytes(receive[:MOST_STORED]) + PAD + END_BYTE
+        message = sysex if channel is None else channel
+        if message is not None:
+            messages[place] = message
+    return messages
+
+
+def make_stream(chance, length):
+    """Return a socket's bytes, with real-time bytes anywhere."""
+    stream = bytearray()
+    while len(stream) < length:
+        for byte in fragment(chance):
+            stream.append(byte)
+            if chance.randrange(20) == 0:
+                stream.append(chance.choice(REAL_TIME))
+    return bytes(stream)
+
+
+class Plan:
+    """What the sockets and the panel send, and the settings."""
+
+    def __init__(self, chance):
+        self.settings = chance.choice(((0, 0), (0, 1), (5, 0)))
+        self.memory = (dump(ALL, waves(chance.getrandbits(32))),
+                       edit_with({46: chance.randrange(16)}))
+        panel = [chance.choice((asking, storing))(chance)
+                 for _ in range(chance.randrange(8))]
+        streams = [make_stream(chance, chance.randrange(300, 3000))
+                   for _ in SOCKETS]
+        self.sources = (*streams, panel)
+        self.finished = (*map(finished, streams), dict(enumerate(panel)))
+
+    def order(self, chance):
+        """Return an order of finishing: a source for each message."""
+        order = [source for source, messages in enumerate(self.finished)
+                 for _ in messages]
+        chance.shuffle(order)
+        return order
+
+    def mix(self, chance, order):
+        """Return every call's (source, place), finishing in this order."""
+        calls, places, turn = [], [0, 0, 0], 0
+        ends = [*map(len, self.sources)]
+        # how long a source may go on: byte by byte, or in runs
+        longest = chance.choice((1, 3, 100, 6000))
+        while places != ends:
+            source = chance.randrange(len(ends))
+            for _ in range(chance.randrange(longest) + 1):
+                place = places[source]
+                finishing = place in self.finished[source]
+                # one that would finish before its turn waits
+                if place == ends[source] or (finishing
+                                             and order[turn] != source):
+                    break
+                calls.append((source, place))
+                places[source] += 1
+                turn += finishing
+        return calls
+
+    def in_order(self, order):
+        """Return the finishing calls' (source, place) in this order."""
+        places = [iter(messages) for messages in self.finished]
+        return [(source, next(places[source])) for source in order]
+
+    def begin(self):
+        """Return a script that sets the settings and fills memory."""
+        script = Script()
+        for message in self.memory:
+            script.whole(message)
+        script.settings(*self.settings)
+        return script
+
+    def mixed_script(self, calls):
+        """Return the script of mixed calls, and what its calls are."""
+        script = self.begin()
+        for source, place in calls:
+            if source == PANEL:
+                script.whole(self.sources[PANEL][place])
+            else:
+                script.send(source, self.sources[source][place:place + 1])
+        return bytes(script.commands), [None] * len(self.memory) + calls
+
+    def single_script(self, calls):
+        """Return the script of one message at a time, and its calls."""
+        script, named = self.begin(), [None] * len(self.memory)
+        for source, place in calls:
+            message = self.finished[source][place]
+            if source == PANEL or message[0] == START:
+                script.whole(message)
+            else:
+                script.send(0, message)
+                named += [None] * (len(message) - 1)
+            named.append((source, place))
+        return bytes(script.commands), named
+
+
+class Run:
+    """What a player printed of a plan's calls."""
+
+    def __init__(self, named, lines):
+        self.answers = {}
+        self.memory = lines[-2]  # at the end
+        for line, following in zip(lines, lines[1:]):
+            letter, at, *fields = line.split('\t')
+            if letter in ('S', 'W') and named[int(at)] is not None:
+                call = named[int(at)]
+                self.answers[call] = read_answer(call[0], fields, following)
+
+    def own(self):
+        """Return of each socket's calls what its bytes alone decide."""
+        return {
+            call: (APPLIED if answer.number == NOT_SELECTED
+                   else answer.number,
+                   answer.length, answer.receive, answer.receiver)
+            for call, answer in self.answers.items() if call[0] != PANEL}
+
+    def all(self):
+        """Return of every call what the order of finishing decides."""
+        # a cut's place among what the others finish is not in that order
+        calls = {call: answer if answer.number != CUT
+                 else answer._replace(memory='', reply_buffer='')
+                 for call, answer in self.answers.items()}
+        return {**calls, 'memory': self.memory}
+
+    def effects(self):
+        """Return of every finishing call what it did."""
+        calls = {call: (answer.number, answer.length, answer.reply,
+                        answer.memory)
+                 for call, answer in self.answers.items()
+                 if answer.number != CUT}
+        return {**calls, 'memory': self.memory}
+
+
+def read_answer(source, fields, following):
+    """Return the answer of a call's line and of the line behind it."""
+    number, length, memory, reply_buffer, *sockets = fields
+    own = ('', '') if source == PANEL else sockets[source::2]
+    reply = following if following.startswith('r') else ''
+    return Answer(int(number), int(length), memory, reply_buffer, *own, reply)
+
+
+def play_plan(chance, play):
+    """Play a plan, and yield (what, two scripts, what must be equal)."""
+    plan = Plan(chance)
+    orders = plan.order(chance), plan.order(chance)
+    one, two, other = (plan.mixed_script(plan.mix(chance, order))
+                       for order in (orders[0], *orders))
+    singles = [plan.single_script(plan.in_order(order)) for order in orders]
+    first, again, third, *whole = (
+        Run(named, play(script))
+        for script, named in (one, two, other, *singles))
+    yield ('any two runs', one[0], other[0], first.own(), third.own())
+    yield ('the same order of finishing', one[0], two[0], first.all(),
+           again.all())
+    yield ('one message at a time', one[0], singles[0][0], first.effects(),
+           whole[0].effects())
+    yield ('one message at a time', other[0], singles[1][0], third.effects(),
+           whole[1].effects())
