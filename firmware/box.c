@@ -139,8 +139,7 @@ static _Bool run(void)
 {
     _Bool well = 1;
     for (;;) {
-        struct pollfd waits[SOCKETS + 1] = {
-            awaited(&sockets[0]), awaited(&sockets[1]), {stop_pipe[0], POLLIN, 0}};
+        struct pollfd waits[SOCKETS + 1] = {awaited(&sockets[0]), awaited(&sockets[1]), {stop_pipe[0], POLLIN, 0}};
         if (waits[0].fd < 0 && waits[1].fd < 0)
             return well;
         if (poll(waits, SOCKETS + 1, -1) < 0 && errno != EINTR)

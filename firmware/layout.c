@@ -42,8 +42,8 @@ static uint8_t memory[COSTERBLOOM_MEMORY], receive[COSTERBLOOM_LONGEST], reply[C
 
 static void take(uint8_t byte)
 {
-    costerbloom_take(&lent.receiver, 0, byte, 0, 0, 0, 0, 0, 0, memory, sizeof memory, receive, sizeof receive, reply,
-        sizeof reply);
+    costerbloom_take(
+        &lent.receiver, 0, byte, 0, 0, 0, 0, 0, 0, memory, sizeof memory, receive, sizeof receive, reply, sizeof reply);
 }
 
 static _Bool differs(const char *fed, const char *what)

@@ -1,11 +1,7 @@
 /* Plays a script through the C interface: reads it on standard input and prints its lines, both in the form of
  * second/REPLAY.md, whose words stand in the comments. */
-#include "costerbloom.h"
-
-/* The kit has no headers of its C library. */
-long read(int file, void *bytes, size_t length);
-long write(int file, const void *bytes, size_t length);
-_Noreturn void _exit(int status);
+#include <costerbloom.h>
+#include <system.h>
 
 enum { MESSAGE_ROOM = 8192, MEMORY_ROOM = 2700, BUFFER_ROOM = 5220, AT_ONCE = 65536 };
 enum { MEMORY, RECEIVE, REPLY = 3, BUFFERS };
@@ -27,7 +23,8 @@ typedef struct {
     uint8_t op, a, b, v;
 } command;
 
-static size_t least(size_t a, size_t b) {
+static size_t least(size_t a, size_t b)
+{
     return a < b ? a : b;
 }
 
@@ -36,9 +33,10 @@ static size_t least(size_t a, size_t b) {
 static char printed[AT_ONCE];
 static size_t printed_length;
 
-static void flush(void) {
+static void flush(void)
+{
     for (size_t done = 0; done < printed_length;) {
-        long more = write(1, printed + done, printed_length - done);
+        ptrdiff_t more = write(STANDARD_OUTPUT, printed + done, printed_length - done);
         if (more <= 0)
             _exit(1);
         done += (size_t)more;
@@ -46,13 +44,15 @@ static void flush(void) {
     printed_length = 0;
 }
 
-static void print(char c) {
+static void print(char c)
+{
     if (printed_length == AT_ONCE)
         flush();
     printed[printed_length++] = c;
 }
 
-static void print_field(uint64_t number) {
+static void print_field(uint64_t number)
+{
     char digits[20];
     size_t count = 0;
     do {
@@ -64,7 +64,8 @@ static void print_field(uint64_t number) {
         print(digits[--count]);
 }
 
-static void print_hex(char letter, const uint8_t *bytes, size_t length) {
+static void print_hex(char letter, const uint8_t *bytes, size_t length)
+{
     print(letter);
     print('\t');
     for (size_t i = 0; i < length; i++) {
@@ -75,19 +76,22 @@ static void print_hex(char letter, const uint8_t *bytes, size_t length) {
 }
 
 /* "the sum over all places i of (i + 1) x byte i, of the whole buffer" */
-static uint64_t digest(const uint8_t *bytes, size_t length) {
+static uint64_t digest(const uint8_t *bytes, size_t length)
+{
     uint64_t sum = 0;
     for (size_t i = 0; i < length; i++)
         sum += (uint64_t)(i + 1) * bytes[i];
     return sum;
 }
 
-static uint64_t as_number(const costerbloom_receiver *r) {
-    return r->stored | (uint64_t)r->inside << 16 | (uint64_t)r->over << 24 | (uint64_t)r->running << 32
-        | (uint64_t)r->held << 40 | (uint64_t)r->waiting << 48;
+static uint64_t as_number(const costerbloom_receiver *r)
+{
+    return r->stored | (uint64_t)r->inside << 16 | (uint64_t)r->over << 24 | (uint64_t)r->running << 32 |
+           (uint64_t)r->held << 40 | (uint64_t)r->waiting << 48;
 }
 
-static void print_answer(char letter, uint64_t answer) {
+static void print_answer(char letter, uint64_t answer)
+{
     uint64_t length = answer >> 8; /* with bits 24 and up, which must be 0 */
     print(letter);
     print_field(calls);
@@ -104,7 +108,8 @@ static void print_answer(char letter, uint64_t answer) {
         print_hex('r', reply, least(length, BUFFER_ROOM));
 }
 
-static void print_value(char letter, uint32_t value) {
+static void print_value(char letter, uint32_t value)
+{
     print(letter);
     print_field(calls);
     print_field(value);
@@ -113,7 +118,8 @@ static void print_value(char letter, uint32_t value) {
 
 /* Calls */
 
-static void take(uint32_t socket, uint8_t byte) {
+static void take(uint32_t socket, uint8_t byte)
+{
     size_t own = socket != 0; /* "any other number is lent receiver and receive buffer 1" */
     uint64_t answer = costerbloom_take(&receivers[own], socket, byte, channel, omni, revision[0], revision[1],
         revision[2], revision[3], memory, lent[MEMORY], receive[own], lent[RECEIVE + own], reply, lent[REPLY]);
@@ -122,35 +128,41 @@ static void take(uint32_t socket, uint8_t byte) {
     calls++;
 }
 
-static void feed(uint32_t socket) {
+static void feed(uint32_t socket)
+{
     for (size_t i = 0; i < message_length; i++)
         take(socket, message[i]);
 }
 
-static void whole(void) {
+static void whole(void)
+{
     print_answer('W', costerbloom_whole(message, message_length, channel, omni, revision[0], revision[1], revision[2],
-        revision[3], memory, lent[MEMORY], reply, lent[REPLY]));
+                          revision[3], memory, lent[MEMORY], reply, lent[REPLY]));
     calls++;
 }
 
-static void scale(uint32_t value) {
+static void scale(uint32_t value)
+{
     print_value('K', costerbloom_scale(controller, value));
     calls++;
 }
 
-static void back(void) {
+static void back(void)
+{
     print_value('D', costerbloom_back(memory, lent[MEMORY], controller));
     calls++;
 }
 
 /* Commands */
 
-static void pattern(size_t from, uint8_t v) {
+static void pattern(size_t from, uint8_t v)
+{
     for (size_t place = from; place < message_length; place++)
         message[place] = (uint8_t)((v + 7 * place) % 16);
 }
 
-static void set_receiver(costerbloom_receiver *r, unsigned part, uint8_t v) {
+static void set_receiver(costerbloom_receiver *r, unsigned part, uint8_t v)
+{
     switch (part) {
         case 0: r->stored = (uint16_t)((r->stored & 0xFF00) | v); break;
         case 1: r->stored = (uint16_t)((r->stored & 0xFF) | v << 8); break;
@@ -162,12 +174,14 @@ static void set_receiver(costerbloom_receiver *r, unsigned part, uint8_t v) {
     }
 }
 
-static void set_channel(uint8_t a, uint8_t b) {
+static void set_channel(uint8_t a, uint8_t b)
+{
     channel = a;
     omni = b;
 }
 
-static void play(command c) {
+static void play(command c)
+{
     uint32_t n = c.a + 256u * c.b, socket = c.a + ((uint32_t)c.b << 24);
     switch (c.op) {
         case 'L': message_length = least(n, MESSAGE_ROOM); break;
@@ -189,11 +203,12 @@ static void play(command c) {
 
 /* Reading */
 
-static int next_byte(uint8_t *byte) {
+static int next_byte(uint8_t *byte)
+{
     static uint8_t script[AT_ONCE];
     static size_t place, length;
     if (place == length) {
-        long more = read(0, script, AT_ONCE);
+        ptrdiff_t more = read(STANDARD_INPUT, script, AT_ONCE);
         if (more < 0)
             _exit(1);
         place = 0;
@@ -206,11 +221,13 @@ static int next_byte(uint8_t *byte) {
 }
 
 /* "A rest of fewer than 4 bytes at the end is ignored" */
-static int next_command(command *c) {
+static int next_command(command *c)
+{
     return next_byte(&c->op) && next_byte(&c->a) && next_byte(&c->b) && next_byte(&c->v);
 }
 
-int main(void) {
+int main(void)
+{
     command c;
     while (next_command(&c))
         play(c);

@@ -1,11 +1,11 @@
-/* The few functions of the system that the firmware calls, as Linux on x86-64 has them: declared by hand, since the
+/* The few functions of the system that our C calls, as Linux on x86-64 has them: declared by hand, since the
  * kit has a C library and no headers. None of them allocates. */
 #ifndef SYSTEM_H
 #define SYSTEM_H
 
 #include <stddef.h>
 
-enum { STANDARD_ERROR = 2 };
+enum { STANDARD_INPUT = 0, STANDARD_OUTPUT = 1, STANDARD_ERROR = 2 };
 enum { O_RDONLY = 0, O_WRONLY = 01, O_CREAT = 0100, O_TRUNC = 01000, O_NONBLOCK = 04000 };
 enum { SEEK_END = 2 };
 enum { POLLIN = 0x1, POLLOUT = 0x4 };
