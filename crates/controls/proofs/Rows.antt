@@ -1,4 +1,4 @@
--- Laws of the table: what its list says of each row, and that the code's columns are the list.
+-- Laws of the table: what its list says of each row, and what is found where no entry fits.
 use Prim.Native.Nat.{ℕ, _+_, _≤_, _<_}
 use mathlib.Core.Bool.{Bool, true, false, cond, _&&_, false≢true}
 use mathlib.Core.List.{List, [], _∷_}
@@ -6,13 +6,12 @@ use mathlib.Core.Logic.{inl, inr, ⊎-elim}
 use mathlib.Core.Path.{_≡_, refl}
 use native.Mathlib.Omega.{arith}
 use lib.Dec.{eqb, leb, ltb}
-use lib.ListN.{getD}
 use borrow.Author.Tests.{eqb-true, leb-true, ltb-true, ne-eqb}
 use Rattle.ground.proofs.Tests.{both, either, by}
-use Rattle.ground.proofs.Computed.{column, column-at, every, every-at}
+use Rattle.ground.proofs.Computed.{every, every-at}
 use Rattle.controls.specs.declared.Row.{Row}
 use Rattle.controls.specs.Formulas.{m-upper, m-lower, numberBy}
-use Rattle.controls.specs.Table.{Entry, programSize, Sane, find, none, rowAs, rows, rowOf, selections, effectOf}
+use Rattle.controls.specs.Table.{Entry, programSize, Sane, find, none, rowAs, rows, rowOf}
 use Rattle.controls.proofs.Bytes.{Outside, above}
 
 module _ {A : Type 0} (other : A) where
@@ -28,47 +27,20 @@ module _ {A : Type 0} (other : A) where
       let p = both (test (e .key) (e .value)) (all test es) t in
       by (λ x. test key x ≡ true) (eqb key (e .key)) _ _ (λ same. rw (eqb-true key (e .key) same) (p .0)) (λ _. found test o es (p .1) key)
 
-  -- the keys are below n, so nothing is found from n on
-  abbrev pub keysBelow : ℕ → List (Entry A) → Bool
-  keysBelow n [] = true
-  keysBelow n (e ∷ es) = ltb (e .key) n && keysBelow n es
+  -- what is known where no arm of a match over the list's keys fits: `Known`, and of each key that it is another
+  abbrev pub Missed : ℕ → List (Entry A) → Type 0 → Type 0
+  Missed key [] Known = Known
+  Missed key (e ∷ es) Known = Missed key es (Known × (key ≡ e .key → ⊥))
 
-  pub not-found : (n : ℕ) (es : List (Entry A)) → keysBelow n es ≡ true → (key : ℕ) → n ≤ key → find other key es ≡ other
-  not-found n [] t key h = refl
-  not-found n (e ∷ es) t key h =
-      let p = both (ltb (e .key) n) (keysBelow n es) t in
-      let l = ltb-true (e .key) n (p .0) in
-      rw (ne-eqb key (e .key) (λ q. omega arith)) (not-found n es (p .1) key h)
+  pub not-found : (key : ℕ) (es : List (Entry A)) (Known : Type 0) → Missed key es Known → Known × (find other key es ≡ other)
+  not-found key [] Known m = (m, refl)
+  not-found key (e ∷ es) Known m =
+      let p = not-found key es (Known × (key ≡ e .key → ⊥)) m in
+      (p .0 .0, rw (ne-eqb key (e .key) (p .0 .1)) (p .1))
 
 -- the row of a controller that is not in the table
 abbrev pub unlisted : Row
 unlisted = rowAs 0 0 0 0 none
-
-pub above-127 : (controller : ℕ) → 127 < controller → rowOf controller ≡ unlisted
-unfolding rowOf rows
-above-127 controller h = not-found _ 128 rows refl controller h
-
--- a part of the rows, as a column that antt computes from the list
-abbrev pub columnOf : (Row → ℕ) → List ℕ
-columnOf part = column (λ c. part (rowOf c)) 128
-
-module _ (controller : ℕ) (h : controller < 128) where
-  part-in : (part : Row → ℕ) → getD (columnOf part) controller 0 ≡ part (rowOf controller)
-  part-in part = column-at (λ c. part (rowOf c)) 128 controller h
-
-  pub row-in : rowAs (getD (columnOf (λ r. r .place)) controller 0) (getD (columnOf (λ r. r .width)) controller 0)
-      (getD (columnOf (λ r. r .formula)) controller 0) (getD (columnOf (λ r. r .highest)) controller 0)
-      (getD (columnOf (λ r. r .effect)) controller 0) ≡ rowOf controller
-  row-in =
-      λ i. rowAs (part-in (λ r. r .place) i) (part-in (λ r. r .width) i) (part-in (λ r. r .formula) i) (part-in (λ r. r .highest) i)
-      (part-in (λ r. r .effect) i)
-
-pub above-15 : (byte46 : ℕ) → 15 < byte46 → effectOf byte46 ≡ none
-unfolding effectOf selections
-above-15 byte46 h = not-found _ 16 selections refl byte46 h
-
-pub effect-in : (byte46 : ℕ) → byte46 < 16 → getD (column effectOf 16) byte46 0 ≡ effectOf byte46
-effect-in byte46 h = column-at effectOf 16 byte46 h
 
 -- Facts that hold of every row, each by one test that antt computes over the list.
 implied : (a b : Bool) → cond a b true ≡ true → a ≡ true → b ≡ true
@@ -88,14 +60,6 @@ abbrev whole-m : ℕ → Row → Bool
 whole-m formula r = cond (eqb (r .formula) formula) (leb 127 (r .highest) && eqb (r .width) 3) true
 
 module _ (controller : ℕ) where
-  pub row-sane : Sane (rowOf controller)
-  unfolding rows
-  row-sane =
-      let r = rowOf controller in
-      let p = both (leb (r .place + r .width) programSize) (leb (r .width) 3 && leb (r .highest) 127) (fact (λ _. isSane) (λ _. refl) refl controller) in
-      let q = both (leb (r .width) 3) (leb (r .highest) 127) (p .1) in
-      record { inside = leb-true _ _ (p .0); narrow = leb-true _ _ (q .0); low = leb-true _ _ (q .1) }
-
   wholes : (formula : ℕ) → whole-m formula unlisted ≡ true → all unlisted (λ _. whole-m formula) rows ≡ true → eqb (rowOf controller .formula) formula ≡ true
       → (127 ≤ rowOf controller .highest) × (rowOf controller .width ≡ 3)
   wholes formula o t e =
@@ -110,6 +74,14 @@ module _ (controller : ℕ) where
   pub whole-lower : eqb (rowOf controller .formula) m-lower ≡ true → (127 ≤ rowOf controller .highest) × (rowOf controller .width ≡ 3)
   unfolding rows
   whole-lower = wholes m-lower refl refl
+
+  pub row-sane : Sane (rowOf controller)
+  unfolding rows
+  row-sane =
+      let r = rowOf controller in
+      let p = both (leb (r .place + r .width) programSize) (leb (r .width) 3 && leb (r .highest) 127) (fact (λ _. isSane) (λ _. refl) refl controller) in
+      let q = both (leb (r .width) 3) (leb (r .highest) 127) (p .1) in
+      record { inside = leb-true _ _ (p .0); narrow = leb-true _ _ (q .0); low = leb-true _ _ (q .1) }
 
   -- a row's numbers have room in its bytes
   pub number-room : (v : ℕ) → v ≤ rowOf controller .highest → above (rowOf controller .width) (numberBy (rowOf controller .formula) v) ≡ 0

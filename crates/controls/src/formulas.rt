@@ -6,29 +6,29 @@ ghost use Rattle.controls.specs.Showing.{smallest, sevenBits, shownOf};
 use crate::Reading;
 use crate::Row;
 
-const V_64: u8 = 0;
+pub(crate) const V_64: u8 = 0;
 
-const V_2: u8 = 1;
+pub(crate) const V_2: u8 = 1;
 
-const AS_RECEIVED: u8 = 2;
+pub(crate) const AS_RECEIVED: u8 = 2;
 
-const THRESHOLD: u8 = 3;
+pub(crate) const THRESHOLD: u8 = 3;
 
 pub(crate) const M_UPPER: u8 = 4;
 
 pub(crate) const M_LOWER: u8 = 5;
 
-const V_22: u8 = 6;
+pub(crate) const V_22: u8 = 6;
 
-const V_50: u8 = 7;
+pub(crate) const V_50: u8 = 7;
 
-const V_256_104: u8 = 8;
+pub(crate) const V_256_104: u8 = 8;
 
-const V_256_42: u8 = 9;
+pub(crate) const V_256_42: u8 = 9;
 
-const V_22_100: u8 = 10;
+pub(crate) const V_22_100: u8 = 10;
 
-const V_25: u8 = 11;
+pub(crate) const V_25: u8 = 11;
 
 // The number that a formula gives for v.
 pub(crate) fn number(formula: u8, v: u16) -> u16

@@ -1,86 +1,124 @@
-// The table as columns: the entry at place c is controller c's, and 0 where there is none.
+// The table, row by row in the document's order. The compiler makes columns of the arms; of constant columns it would
+// write out a copy at every call.
 ghost use mathlib.Core.Path.{_≡_};
-ghost use Rattle.controls.specs.Table.{rowOf, selected};
+ghost use Rattle.controls.specs.Table.{rowAs, rowOf, effectOf, selected};
 use crate::Row;
+use crate::formulas::AS_RECEIVED;
+use crate::formulas::M_LOWER;
+use crate::formulas::M_UPPER;
+use crate::formulas::THRESHOLD;
+use crate::formulas::V_2;
+use crate::formulas::V_22;
+use crate::formulas::V_22_100;
+use crate::formulas::V_25;
+use crate::formulas::V_50;
+use crate::formulas::V_64;
+use crate::formulas::V_256_42;
+use crate::formulas::V_256_104;
 
-// The first byte of the controller's field.
-const PLACE: [u8; 128] = *b"\
-    \x00\x2F\x00\x00\x12\x00\x00\x16\x00\x00\x00\x00\x08\x09\x0B\x0C\
-    \x0D\x0F\x2B\x2E\x0A\x0E\x06\x10\x11\x00\x01\x02\x03\x00\x1A\x00\
-    \x22\x00\x24\x00\x05\x26\x27\x28\x29\x2A\x30\x00\x13\x14\x17\x18\
-    \x00\x30\x04\x30\x32\x34\x35\x30\x31\x33\x30\x32\x00\x00\x1A\x00\
-    \x00\x00\x00\x00\x00\x00\x00\x2C\x2D\x07\x00\x00\x00\x00\x00\x00\
-    \x00\x00\x00\x00\x00\x00\x00\x00\x00\x00\x00\x00\x00\x00\x00\x00\
-    \x00\x00\x00\x00\x00\x00\x00\x00\x00\x00\x00\x00\x00\x00\x00\x00\
-    \x00\x00\x00\x00\x00\x00\x00\x00\x00\x00\x00\x00\x00\x00\x00\x00";
+// The effects that share bytes 48 to 54.
+const NONE: u8 = 0;
 
-// How many bytes the field has; 0 where the controller is not in the table.
-const WIDTH: [u8; 128] = *b"\
-    \x00\x01\x00\x00\x01\x00\x00\x01\x00\x00\x00\x00\x01\x01\x01\x01\
-    \x01\x01\x01\x01\x01\x01\x01\x01\x01\x01\x01\x01\x01\x00\x03\x00\
-    \x01\x00\x01\x00\x01\x01\x01\x01\x01\x01\x01\x00\x01\x01\x01\x01\
-    \x00\x01\x01\x02\x02\x01\x02\x01\x02\x02\x02\x01\x00\x00\x03\x00\
-    \x00\x00\x00\x00\x00\x00\x00\x01\x01\x01\x00\x00\x00\x00\x00\x00\
-    \x00\x00\x00\x00\x00\x00\x00\x00\x00\x00\x00\x00\x00\x00\x00\x00\
-    \x00\x00\x00\x00\x00\x00\x00\x00\x00\x00\x00\x00\x00\x00\x00\x00\
-    \x00\x00\x00\x00\x00\x00\x00\x00\x00\x00\x00\x00\x00\x00\x00\x00";
+const SWELL: u8 = 1;
 
-// The formula, by its number in formulas.
-const FORMULA: [u8; 128] = *b"\
-    \x00\x01\x00\x00\x02\x00\x00\x02\x00\x00\x00\x00\x02\x01\x01\x01\
-    \x01\x01\x01\x02\x01\x01\x00\x03\x01\x00\x00\x00\x00\x00\x04\x00\
-    \x01\x00\x01\x00\x00\x00\x01\x01\x01\x01\x06\x00\x02\x02\x02\x00\
-    \x00\x01\x00\x07\x08\x02\x09\x00\x0A\x0A\x0B\x02\x00\x00\x05\x00\
-    \x00\x00\x00\x00\x00\x00\x00\x02\x01\x00\x00\x00\x00\x00\x00\x00\
-    \x00\x00\x00\x00\x00\x00\x00\x00\x00\x00\x00\x00\x00\x00\x00\x00\
-    \x00\x00\x00\x00\x00\x00\x00\x00\x00\x00\x00\x00\x00\x00\x00\x00\
-    \x00\x00\x00\x00\x00\x00\x00\x00\x00\x00\x00\x00\x00\x00\x00\x00";
+const COMPRESSOR: u8 = 2;
 
-// The highest value that the controller takes.
-const HIGHEST: [u8; 128] = *b"\
-    \x00\x7F\x00\x00\x7F\x00\x00\x7F\x00\x00\x00\x00\x1B\x7F\x7F\x7F\
-    \x7F\x7F\x7F\x0F\x7F\x7F\x7F\x7F\x7F\x7F\x7F\x7F\x7F\x00\x7F\x00\
-    \x7F\x00\x7F\x00\x7F\x7F\x7F\x7F\x7F\x7F\x7F\x00\x7F\x7F\x7F\x7F\
-    \x00\x7F\x7F\x7F\x7F\x7F\x7F\x7F\x7F\x7F\x7F\x7F\x00\x00\x7F\x00\
-    \x00\x00\x00\x00\x00\x00\x00\x0F\x7F\x7F\x00\x00\x00\x00\x00\x00\
-    \x00\x00\x00\x00\x00\x00\x00\x00\x00\x00\x00\x00\x00\x00\x00\x00\
-    \x00\x00\x00\x00\x00\x00\x00\x00\x00\x00\x00\x00\x00\x00\x00\x00\
-    \x00\x00\x00\x00\x00\x00\x00\x00\x00\x00\x00\x00\x00\x00\x00\x00";
+const CHORUS: u8 = 3;
 
-// The effect that must be selected: swell 1, compressor 2, chorus 3, rotary 4, tremolo 5; 0 for none.
-const EFFECT: [u8; 128] = *b"\
-    \x00\x00\x00\x00\x00\x00\x00\x00\x00\x00\x00\x00\x00\x00\x00\x00\
-    \x00\x00\x00\x00\x00\x00\x00\x00\x00\x00\x00\x00\x00\x00\x00\x00\
-    \x00\x00\x00\x00\x00\x00\x00\x00\x00\x00\x02\x00\x00\x00\x00\x00\
-    \x00\x01\x00\x03\x03\x03\x03\x04\x04\x04\x05\x05\x00\x00\x00\x00\
-    \x00\x00\x00\x00\x00\x00\x00\x00\x00\x00\x00\x00\x00\x00\x00\x00\
-    \x00\x00\x00\x00\x00\x00\x00\x00\x00\x00\x00\x00\x00\x00\x00\x00\
-    \x00\x00\x00\x00\x00\x00\x00\x00\x00\x00\x00\x00\x00\x00\x00\x00\
-    \x00\x00\x00\x00\x00\x00\x00\x00\x00\x00\x00\x00\x00\x00\x00\x00";
+const ROTARY: u8 = 4;
 
-// The effect that each value of byte 46 selects; 0 for none.
-const SELECTION: [u8; 16] = *b"\x03\x03\x04\x03\x03\x05\x00\x02\x03\x05\x00\x02\x03\x03\x01\x03";
+const TREMOLO: u8 = 5;
 
-// The row of a controller.
+fn row(place: u8, width: u8, formula: u8, highest: u8, effect: u8) -> Row
+    ensures { λ r. ⌜ r ≡ rowAs place width formula highest effect ⌝ }
+{
+    Row {
+        place,
+        width,
+        formula,
+        highest,
+        effect,
+    }
+}
+
+// The row of a controller: the first byte of its field, the bytes, the formula, the highest value, the effect.
 pub fn row_of(controller: u32) -> Row
     ensures { λ r. ⌜ r ≡ rowOf controller ⌝ }
 {
-    if 127 < controller {
-        return Row {
-            place: 0,
-            width: 0,
-            formula: 0,
-            highest: 0,
-            effect: 0,
-        };
+    match controller {
+        25 => row(0, 1, V_64, 127, NONE),
+        26 => row(1, 1, V_64, 127, NONE),
+        27 => row(2, 1, V_64, 127, NONE),
+        28 => row(3, 1, V_64, 127, NONE),
+        50 => row(4, 1, V_64, 127, NONE),
+        36 => row(5, 1, V_64, 127, NONE),
+        22 => row(6, 1, V_64, 127, NONE),
+        73 => row(7, 1, V_64, 127, NONE),
+        47 => row(24, 1, V_64, 127, NONE),
+        37 => row(38, 1, V_64, 127, NONE),
+        13 => row(9, 1, V_2, 127, NONE),
+        20 => row(10, 1, V_2, 127, NONE),
+        14 => row(11, 1, V_2, 127, NONE),
+        15 => row(12, 1, V_2, 127, NONE),
+        16 => row(13, 1, V_2, 127, NONE),
+        21 => row(14, 1, V_2, 127, NONE),
+        17 => row(15, 1, V_2, 127, NONE),
+        24 => row(17, 1, V_2, 127, NONE),
+        32 => row(34, 1, V_2, 127, NONE),
+        34 => row(36, 1, V_2, 127, NONE),
+        38 => row(39, 1, V_2, 127, NONE),
+        39 => row(40, 1, V_2, 127, NONE),
+        40 => row(41, 1, V_2, 127, NONE),
+        41 => row(42, 1, V_2, 127, NONE),
+        18 => row(43, 1, V_2, 127, NONE),
+        72 => row(45, 1, V_2, 127, NONE),
+        1 => row(47, 1, V_2, 127, NONE),
+        4 => row(18, 1, AS_RECEIVED, 127, NONE),
+        44 => row(19, 1, AS_RECEIVED, 127, NONE),
+        45 => row(20, 1, AS_RECEIVED, 127, NONE),
+        7 => row(22, 1, AS_RECEIVED, 127, NONE),
+        46 => row(23, 1, AS_RECEIVED, 127, NONE),
+        12 => row(8, 1, AS_RECEIVED, 27, NONE),
+        71 => row(44, 1, AS_RECEIVED, 15, NONE),
+        19 => row(46, 1, AS_RECEIVED, 15, NONE),
+        23 => row(16, 1, THRESHOLD, 127, NONE),
+        30 => row(26, 3, M_UPPER, 127, NONE),
+        62 => row(26, 3, M_LOWER, 127, NONE),
+        49 => row(48, 1, V_2, 127, SWELL),
+        42 => row(48, 1, V_22, 127, COMPRESSOR),
+        51 => row(48, 2, V_50, 127, CHORUS),
+        52 => row(50, 2, V_256_104, 127, CHORUS),
+        53 => row(52, 1, AS_RECEIVED, 127, CHORUS),
+        54 => row(53, 2, V_256_42, 127, CHORUS),
+        55 => row(48, 1, V_64, 127, ROTARY),
+        56 => row(49, 2, V_22_100, 127, ROTARY),
+        57 => row(51, 2, V_22_100, 127, ROTARY),
+        58 => row(48, 2, V_25, 127, TREMOLO),
+        59 => row(50, 1, AS_RECEIVED, 127, TREMOLO),
+        _ => row(0, 0, 0, 0, NONE),
     }
-    let c = controller as usize;
-    Row {
-        place: PLACE[c],
-        width: WIDTH[c],
-        formula: FORMULA[c],
-        highest: HIGHEST[c],
-        effect: EFFECT[c],
+}
+
+// The effect that byte 46 selects.
+fn effect_of(byte46: u8) -> u8
+    ensures { λ r. ⌜ r ≡ effectOf byte46 ⌝ }
+{
+    match byte46 {
+        14 => SWELL,
+        7 => COMPRESSOR,
+        11 => COMPRESSOR,
+        0 => CHORUS,
+        1 => CHORUS,
+        3 => CHORUS,
+        4 => CHORUS,
+        8 => CHORUS,
+        12 => CHORUS,
+        13 => CHORUS,
+        15 => CHORUS,
+        2 => ROTARY,
+        5 => TREMOLO,
+        9 => TREMOLO,
+        _ => NONE,
     }
 }
 
@@ -88,11 +126,9 @@ pub fn row_of(controller: u32) -> Row
 pub(crate) fn is_selected(effect: u8, byte46: u8) -> bool
     ensures { λ r. ⌜ r ≡ selected effect byte46 ⌝ }
 {
-    if effect == 0 {
+    if effect == NONE {
         return true;
     }
-    if 15 < byte46 {
-        return false;
-    }
-    effect == SELECTION[byte46 as usize]
+    let chosen = effect_of(byte46);
+    effect == chosen
 }

@@ -1,6 +1,5 @@
 -- What C reads off a number: an answer's number and its reply length, and whether a reading is a value or a refusal.
 use Prim.Native.Nat.{ℕ, _+_, _/_, _%_, _≤_, _<_, _^_}
-use mathlib.Core.Bool.{cond}
 use mathlib.Core.List.{List}
 use mathlib.Core.Logic.{⊎-elim}
 use mathlib.Core.Path.{_≡_, refl}
@@ -26,7 +25,6 @@ use Rattle.sysex.specs.Forms.{longest}
 use Rattle.sysex.specs.Numbers.{numberOf, lengthOf}
 use Rattle.sysex.specs.Carrying.{Outcome, Left}
 use Rattle.podbox.specs.Settings.{size, isValid}
-use Rattle.podbox.specs.Messages.{carry}
 use Rattle.podbox.specs.Whole.{isFramed, bodyOf, wholeOf}
 use Rattle.podbox.specs.Take.{takeOf}
 use Rattle.podbox.proofs.Carried.{Tame, stores, sends, applies, refuses, carry-tame}

@@ -1,5 +1,5 @@
-pub mod Parts
 pub mod Stands
+pub mod ByNumbers
 pub mod Keeps
 pub mod Rules
 pub mod Cases

@@ -7,53 +7,44 @@ use crate::Receiver;
 use crate::Stepped;
 
 // Running status, or none, and nothing half received.
-fn under(status: u8, event: Event) -> Stepped
-    ensures { λ s. ⌜ s ≡ leaves (underOf status) event ⌝ }
+fn under(status: u8) -> Receiver
+    ensures { λ r. ⌜ r ≡ underOf status ⌝ }
 {
-    Stepped {
-        receiver: Receiver {
-            stored: 0,
-            inside: 0,
-            over: 0,
-            running: status,
-            held: 0,
-            waiting: 0,
-        },
-        event,
+    Receiver {
+        stored: 0,
+        inside: 0,
+        over: 0,
+        running: status,
+        held: 0,
+        waiting: 0,
     }
 }
 
 // A first data byte that waits for the second.
-fn holding(status: u8, first: u8) -> Stepped
-    ensures { λ s. ⌜ s ≡ leaves (holdingOf status first) Event.Nothing ⌝ }
+fn holding(status: u8, first: u8) -> Receiver
+    ensures { λ r. ⌜ r ≡ holdingOf status first ⌝ }
 {
-    Stepped {
-        receiver: Receiver {
-            stored: 0,
-            inside: 0,
-            over: 0,
-            running: status,
-            held: 1,
-            waiting: first,
-        },
-        event: Event::Nothing,
+    Receiver {
+        stored: 0,
+        inside: 0,
+        over: 0,
+        running: status,
+        held: 1,
+        waiting: first,
     }
 }
 
 // An open SysEx.
-fn opened(stored: u16, over: u8, event: Event) -> Stepped
-    ensures { λ s. ⌜ s ≡ leaves (openedOf stored over) event ⌝ }
+fn opened(stored: u16, over: u8) -> Receiver
+    ensures { λ r. ⌜ r ≡ openedOf stored over ⌝ }
 {
-    Stepped {
-        receiver: Receiver {
-            stored,
-            inside: 1,
-            over,
-            running: 0,
-            held: 0,
-            waiting: 0,
-        },
-        event,
+    Receiver {
+        stored,
+        inside: 1,
+        over,
+        running: 0,
+        held: 0,
+        waiting: 0,
     }
 }
 
@@ -67,17 +58,49 @@ pub(crate) fn takes_one(status: u8) -> bool
     status <= 0xDF
 }
 
-// A status byte below F8, inside a SysEx or outside: the caller knows what it does besides.
-fn status_byte(byte: u8, event: Event, opening: Event) -> Stepped
-    ensures { λ s. ⌜ s ≡ statusOf byte event opening ⌝ }
+// A status byte below F8 outside a SysEx. It and `cut` are one rule with other events. The events are not handed over:
+// a handed event is put together and taken apart again at every byte, a written one is where the compiler jumps.
+fn status_byte(byte: u8) -> Stepped
+    ensures { λ s. ⌜ s ≡ statusOf byte Event.Nothing (Event.Collect 0) ⌝ }
 {
     if byte < 0xF0 {
-        return under(byte, event);
+        return Stepped {
+            receiver: under(byte),
+            event: Event::Nothing,
+        };
     }
     if byte == 0xF0 {
-        return opened(1, 0, opening);
+        return Stepped {
+            receiver: opened(1, 0),
+            event: Event::Collect(0),
+        };
     }
-    under(0, event)
+    Stepped {
+        receiver: under(0),
+        event: Event::Nothing,
+    }
+}
+
+// A status byte below F8 inside a SysEx, other than F7.
+fn cut(byte: u8) -> Stepped
+    ensures { λ s. ⌜ s ≡ statusOf byte Event.Cut Event.CutAndOpen ⌝ }
+{
+    if byte < 0xF0 {
+        return Stepped {
+            receiver: under(byte),
+            event: Event::Cut,
+        };
+    }
+    if byte == 0xF0 {
+        return Stepped {
+            receiver: opened(1, 0),
+            event: Event::CutAndOpen,
+        };
+    }
+    Stepped {
+        receiver: under(0),
+        event: Event::Cut,
+    }
 }
 
 // A data byte of an open SysEx: the first that finds no room marks it.
@@ -86,9 +109,15 @@ fn added(receiver: Receiver, limit: u16) -> Stepped
 {
     let place = receiver.stored;
     if place < limit {
-        return opened(place + 1, receiver.over, Event::Collect(place));
+        return Stepped {
+            receiver: opened(place + 1, receiver.over),
+            event: Event::Collect(place),
+        };
     }
-    opened(place, 1, Event::Nothing)
+    Stepped {
+        receiver: opened(place, 1),
+        event: Event::Nothing,
+    }
 }
 
 // F7 of an open SysEx.
@@ -96,9 +125,15 @@ fn finished(receiver: Receiver) -> Stepped
     ensures { λ s. ⌜ s ≡ finishedOf receiver ⌝ }
 {
     if receiver.over == 1 {
-        return under(0, Event::TooLong);
+        return Stepped {
+            receiver: under(0),
+            event: Event::TooLong,
+        };
     }
-    under(0, Event::SysEx(receiver.stored))
+    Stepped {
+        receiver: under(0),
+        event: Event::SysEx(receiver.stored),
+    }
 }
 
 // A byte below F8 inside a SysEx.
@@ -111,7 +146,25 @@ fn inside(receiver: Receiver, byte: u8, limit: u16) -> Stepped
     if byte == 0xF7 {
         return finished(receiver);
     }
-    status_byte(byte, Event::Cut, Event::CutAndOpen)
+    cut(byte)
+}
+
+// Nothing changes. The receiver is copied number by number, as the other receivers of `data_byte` are made: a copy of
+// the whole among them costs the compiler a way through memory.
+fn kept(receiver: Receiver) -> Stepped
+    ensures { λ s. ⌜ s ≡ leaves receiver Event.Nothing ⌝ }
+{
+    Stepped {
+        receiver: Receiver {
+            stored: receiver.stored,
+            inside: receiver.inside,
+            over: receiver.over,
+            running: receiver.running,
+            held: receiver.held,
+            waiting: receiver.waiting,
+        },
+        event: Event::Nothing,
+    }
 }
 
 // A data byte outside a SysEx.
@@ -120,18 +173,24 @@ fn data_byte(receiver: Receiver, byte: u8) -> Stepped
 {
     let status = receiver.running;
     if status == 0 {
-        return Stepped {
-            receiver,
-            event: Event::Nothing,
-        };
+        return kept(receiver);
     }
     if takes_one(status) {
-        return under(status, Event::Channel(status, byte, 0));
+        return Stepped {
+            receiver: under(status),
+            event: Event::Channel(status, byte, 0),
+        };
     }
     if receiver.held == 1 {
-        return under(status, Event::Channel(status, receiver.waiting, byte));
+        return Stepped {
+            receiver: under(status),
+            event: Event::Channel(status, receiver.waiting, byte),
+        };
     }
-    holding(status, byte)
+    Stepped {
+        receiver: holding(status, byte),
+        event: Event::Nothing,
+    }
 }
 
 // A byte below F8 outside a SysEx.
@@ -141,7 +200,7 @@ fn outside(receiver: Receiver, byte: u8) -> Stepped
     if byte < 0x80 {
         return data_byte(receiver, byte);
     }
-    status_byte(byte, Event::Nothing, Event::Collect(0))
+    status_byte(byte)
 }
 
 // What one byte does. At most `limit` bytes of a SysEx are stored.

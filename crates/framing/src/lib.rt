@@ -49,7 +49,8 @@ pub enum Event {
     Channel(u8, u8, u8),
 }
 
+// The event stands first: behind the receiver it would be written last, and the compiler would write it through memory.
 pub struct Stepped {
-    pub receiver: Receiver,
     pub event: Event,
+    pub receiver: Receiver,
 }

@@ -1,6 +1,7 @@
-// When a receiver is sound: a function for each part of the sentence that says it.
+// When a receiver is sound. The sentence that says it asks different things while a SysEx is open and while none is, so
+// that is asked first, and then each number once.
 ghost use mathlib.Core.Path.{_≡_};
-ghost use Rattle.framing.specs.Receiver.{takesTwo, isWritten, countRight, runningRight, waitingRight, longIsFull, soundOf};
+ghost use Rattle.framing.specs.Receiver.{takesTwo, soundOf};
 use crate::Receiver;
 use crate::bytes;
 
@@ -17,42 +18,80 @@ fn takes_two(status: u8) -> bool
     !bytes::takes_one(status)
 }
 
-// Whether the numbers write a receiver at all.
-fn is_written(receiver: Receiver) -> bool
-    ensures { λ t. ⌜ t ≡ isWritten receiver ⌝ }
+// A receiver with an open SysEx: it is counted, and nothing runs or waits.
+fn sound_open(receiver: Receiver, limit: u16) -> bool
+    requires { ⌜ receiver .inside ≡ 1 ⌝ }
+    ensures { λ t. ⌜ t ≡ soundOf limit receiver ⌝ }
 {
-    if 1 < receiver.inside {
+    if receiver.running != 0 {
         return false;
     }
-    if 1 < receiver.over {
+    if receiver.held != 0 {
         return false;
     }
-    if 1 < receiver.held {
+    if receiver.waiting != 0 {
         return false;
     }
-    if receiver.held == 1 {
-        return true;
+    if receiver.stored < 1 {
+        return false;
     }
-    receiver.waiting == 0
-}
-
-// How many bytes are stored.
-fn count_right(receiver: Receiver, limit: u16) -> bool
-    ensures { λ t. ⌜ t ≡ countRight limit receiver ⌝ }
-{
     if limit < receiver.stored {
         return false;
     }
-    if receiver.inside == 1 {
-        return 1 <= receiver.stored;
+    if receiver.over == 0 {
+        return true;
     }
-    receiver.stored == 0
+    if receiver.over != 1 {
+        return false;
+    }
+    if receiver.stored == limit {
+        return true;
+    }
+    false
 }
 
-// Running status.
-fn running_right(receiver: Receiver) -> bool
-    ensures { λ t. ⌜ t ≡ runningRight receiver ⌝ }
+// A receiver with none: nothing is counted.
+fn sound_shut(receiver: Receiver, limit: u16) -> bool
+    requires { ⌜ (receiver .inside ≡ 1 → ⊥) ⌝ }
+    ensures { λ t. ⌜ t ≡ soundOf limit receiver ⌝ }
 {
+    if receiver.inside != 0 {
+        return false;
+    }
+    if receiver.stored != 0 {
+        return false;
+    }
+    if receiver.over != 0 {
+        return false;
+    }
+    if receiver.held == 1 {
+        return sound_held(receiver, limit);
+    }
+    sound_clear(receiver, limit)
+}
+
+// A data byte waits.
+fn sound_held(receiver: Receiver, limit: u16) -> bool
+    requires { ⌜ (receiver .inside ≡ 0) × (receiver .stored ≡ 0) × (receiver .over ≡ 0) × (receiver .held ≡ 1) ⌝ }
+    ensures { λ t. ⌜ t ≡ soundOf limit receiver ⌝ }
+{
+    if 0x7F < receiver.waiting {
+        return false;
+    }
+    takes_two(receiver.running)
+}
+
+// None waits.
+fn sound_clear(receiver: Receiver, limit: u16) -> bool
+    requires { ⌜ (receiver .inside ≡ 0) × (receiver .stored ≡ 0) × (receiver .over ≡ 0) × (receiver .held ≡ 1 → ⊥) ⌝ }
+    ensures { λ t. ⌜ t ≡ soundOf limit receiver ⌝ }
+{
+    if receiver.held != 0 {
+        return false;
+    }
+    if receiver.waiting != 0 {
+        return false;
+    }
     if receiver.running == 0 {
         return true;
     }
@@ -62,50 +101,15 @@ fn running_right(receiver: Receiver) -> bool
     if 0xEF < receiver.running {
         return false;
     }
-    receiver.inside != 1
-}
-
-// A waiting data byte.
-fn waiting_right(receiver: Receiver) -> bool
-    ensures { λ t. ⌜ t ≡ waitingRight receiver ⌝ }
-{
-    if 0x7F < receiver.waiting {
-        return false;
-    }
-    if receiver.held == 1 {
-        return takes_two(receiver.running);
-    }
     true
-}
-
-// A mark of too long.
-fn long_is_full(receiver: Receiver, limit: u16) -> bool
-    ensures { λ t. ⌜ t ≡ longIsFull limit receiver ⌝ }
-{
-    if receiver.over != 1 {
-        return true;
-    }
-    if receiver.inside == 1 {
-        return receiver.stored == limit;
-    }
-    false
 }
 
 // Whether a receiver is sound. At most `limit` bytes of a SysEx are stored.
 pub fn sound(receiver: Receiver, limit: u16) -> bool
     ensures { λ t. ⌜ t ≡ soundOf limit receiver ⌝ }
 {
-    if !is_written(receiver) {
-        return false;
+    if receiver.inside == 1 {
+        return sound_open(receiver, limit);
     }
-    if !count_right(receiver, limit) {
-        return false;
-    }
-    if !running_right(receiver) {
-        return false;
-    }
-    if !waiting_right(receiver) {
-        return false;
-    }
-    long_is_full(receiver, limit)
+    sound_shut(receiver, limit)
 }

@@ -1,29 +1,11 @@
 -- Rules that antt computes over a table.
-use Prim.Native.Nat.{ℕ, zero, suc, _+_, _<_}
-use mathlib.Core.List.{List, [], _∷_}
+use Prim.Native.Nat.{ℕ, zero, suc, _<_}
 use mathlib.Core.Bool.{Bool, true, false, _&&_}
-use mathlib.Core.Path.{_≡_, refl, ap}
+use mathlib.Core.Path.{_≡_, refl}
 use native.Mathlib.Omega.{arith}
 use lib.Dec.{eqb}
-use lib.ListN.{getD}
 use borrow.Author.Tests.{eqb-true, eqb-false}
 use Rattle.ground.proofs.Tests.{both}
-
--- what a rule gives at n numbers from i on: a list of numbers in the code that is this column follows the rule
-abbrev from : (ℕ → ℕ) → ℕ → ℕ → List ℕ
-from rule i zero = []
-from rule i (suc n) = rule i ∷ from rule (i + 1) n
-
-abbrev pub column : (ℕ → ℕ) → ℕ → List ℕ
-column rule n = from rule 0 n
-
-from-at : (rule : ℕ → ℕ) (n i k : ℕ) → k < n → getD (from rule i n) k 0 ≡ rule (i + k)
-from-at rule zero i k h = absurd (omega arith)
-from-at rule (suc n) i zero h = ap rule (omega arith)
-from-at rule (suc n) i (suc k) h = let e : i + 1 + k ≡ i + suc k = omega arith in rw (← e) (from-at rule n (i + 1) k (omega arith))
-
-pub column-at : (rule : ℕ → ℕ) (n k : ℕ) → k < n → getD (column rule n) k 0 ≡ rule k
-column-at rule n k h = let e : 0 + k ≡ k = omega arith in rw e at (from-at rule n 0 k h)
 
 -- A rule that antt computes at each number below n, and that then holds at each.
 abbrev pub every : (ℕ → Bool) → ℕ → Bool

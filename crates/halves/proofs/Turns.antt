@@ -1,11 +1,12 @@
 -- What one turn of each loop keeps: what is written, and then what the definition makes of the rest, is what it makes of the whole.
-use Prim.Native.Nat.{ℕ, _+_, _*_, _/_, _%_, _≤_, _<_}
+use Prim.Native.Nat.{ℕ, _+_, _*_, _/_, _%_, _≤_, _<_, max}
 use mathlib.Core.List.{List, _++_}
-use mathlib.Core.Bool.{false}
-use mathlib.Core.Path.{_≡_, _∙_}
+use mathlib.Core.Bool.{Bool, true, false, _&&_}
+use mathlib.Core.Path.{_≡_, refl, _∙_}
 use native.Mathlib.Omega.{arith}
-use lib.ListN.{length, getD, take, drop, set, length-set}
-use borrow.Author.Tests.{le-leb, lt-leb}
+use lib.ListN.{length, getD, take, drop, set, length-set, drop-of-length-le}
+use lib.Dec.{leb}
+use borrow.Author.Tests.{leb-true, leb-false, le-leb, lt-leb}
 use Rattle.ground.specs.Lists.{allAtMost}
 use Rattle.ground.proofs.Lists.{drop-one, drop-two, written}
 use Rattle.halves.specs.HalfBytes.{split, join}
@@ -24,9 +25,40 @@ split-turn bytes halves i j hi hj inv =
     let e : j + 2 ≡ j + 1 + 1 = omega arith in
     rw e (written d (j + 1) _ _ h ∙ (written halves j _ _ (omega arith) ∙ (rw (drop-one bytes i hi) at inv)))
 
-module _ (top : ℕ) (list : List ℕ) (i : ℕ) (h : i < length list) (inv : allAtMost top (drop i list) ≡ allAtMost top list) where
-  pub look-turn : getD list i 0 ≤ top → allAtMost top (drop (i + 1) list) ≡ allAtMost top list
-  look-turn b = rw (drop-one list i h, le-leb (getD list i 0) top b) at inv
+-- a number of two half bytes, times 4097: the high half, lifted by four bits, stands beside the low half
+pub joined-byte : (high low : ℕ) → high ≤ 15 → low ≤ 15 → (high + 256 * low) * 4097 / 256 % 256 ≡ high * 16 + low
+joined-byte high low h l =
+    let e : (high + 256 * low) * 4097 / 256 ≡ high * 16 + low + 256 * (16 * low) = omega arith in
+    rw e (omega arith)
 
-  pub look-stop : top < getD list i 0 → false ≡ allAtMost top list
-  look-stop b = rw (drop-one list i h, lt-leb (getD list i 0) top b) at inv
+-- the larger of two numbers is at most `top` where both are
+larger-at-most : (top a b : ℕ) (u v : Bool) → leb a top ≡ u → leb b top ≡ v → leb (max a b) top ≡ (u && v)
+larger-at-most top a b true true e f = let p = leb-true a top e in let q = leb-true b top f in le-leb (max a b) top (omega arith)
+larger-at-most top a b true false e f = let q = leb-false b top f in lt-leb (max a b) top (omega arith)
+larger-at-most top a b false v e f = let p = leb-false a top e in lt-leb (max a b) top (omega arith)
+
+and-assoc : (a b c : Bool) → ((a && b) && c) ≡ (a && (b && c))
+and-assoc true b c = refl
+and-assoc false b c = refl
+
+and-true : (a : Bool) → (a && true) ≡ a
+and-true true = refl
+and-true false = refl
+
+-- The list is at most `top` where the largest number that was looked at is, and the rest: before the loop, after a turn, and at the end.
+pub look-begin : (top : ℕ) (list : List ℕ) → (leb 0 top && allAtMost top list) ≡ allAtMost top list
+look-begin top list = rw (le-leb 0 top (omega arith))
+
+pub look-turn : (top most : ℕ) (list : List ℕ) (i : ℕ) → i < length list
+    → (leb most top && allAtMost top (drop i list)) ≡ allAtMost top list
+    → (leb (max most (getD list i 0)) top && allAtMost top (drop (i + 1) list)) ≡ allAtMost top list
+look-turn top most list i h inv =
+    rw (
+      larger-at-most top most (getD list i 0) _ _ refl refl,
+      and-assoc (leb most top) (leb (getD list i 0) top) (allAtMost top (drop (i + 1) list)),
+    ) (rw (drop-one list i h) at inv)
+
+pub look-end : (top most : ℕ) (list : List ℕ) (i : ℕ) → length list ≤ i
+    → (leb most top && allAtMost top (drop i list)) ≡ allAtMost top list
+    → leb most top ≡ allAtMost top list
+look-end top most list i h inv = rw (drop-of-length-le list h, and-true (leb most top)) at inv

@@ -1,7 +1,7 @@
 // Bytes and half bytes, over any length.
 ghost use mathlib.Core.Path.{_≡_};
 ghost use mathlib.Core.Bool.{true};
-ghost use Prim.Native.Nat.{_*_};
+ghost use Prim.Native.Nat.{_*_, _+_, _≤_, max};
 ghost use lib.ListN.{length};
 ghost use Rattle.ground.specs.Lists.{allAtMost};
 ghost use Rattle.halves.specs.HalfBytes.{split, join, allHalves};
@@ -16,18 +16,28 @@ pub enum Moved {
     Above,
 }
 
-// Whether each byte of the list is at most `top`.
+// Whether each byte of the list is at most `top`. The loop has no way out before its end, so that the compiler can look
+// at many bytes at once.
 pub fn all_at_most(list: &[u8], top: u8) -> bool
     ensures { λ r. ⌜ r ≡ allAtMost top (now (list .entry)) ⌝ }
 {
+    let mut most = 0;
     let mut i = 0;
     while i < list.len() {
-        if top < list[i] {
-            return false;
-        }
+        most = larger(most, list[i]);
         i += 1;
     }
-    true
+    most <= top
+}
+
+// The larger of two bytes.
+fn larger(a: u8, b: u8) -> u8
+    ensures { λ r. ⌜ r ≡ max a b ⌝ }
+{
+    if a < b {
+        return b;
+    }
+    a
 }
 
 // Each byte as its high half, then its low half.
@@ -77,8 +87,18 @@ fn join_all(halves: &[u8], bytes: &mut [u8])
     let mut i = 0;
     let mut j = 0;
     while i < bytes.len() {
-        bytes[i] = halves[j] * 16 + halves[j + 1];
+        bytes[i] = joined(halves[j], halves[j + 1]);
         i += 1;
         j += 2;
     }
+}
+
+// A byte from its halves, high * 16 + low, by one multiplication of the two as one number: so the compiler reads them as
+// one, and many of them at once.
+fn joined(high: u8, low: u8) -> u8
+    requires { ⌜ (high ≤ 15) × (low ≤ 15) ⌝ }
+    ensures { λ r. ⌜ r ≡ high * 16 + low ⌝ }
+{
+    let both = high as u32 + 256 * low as u32;
+    (both * 4097 / 256 % 256) as u8
 }

@@ -1,4 +1,4 @@
-use mathlib.Core.Path.{_≡_, ap}
+use mathlib.Core.Path.{ap}
 use Rattle.costerbloom.specs.Numbers.{wholeInNumbers, wholeNumbers}
 use borrow.Author.Needs.{needs}
 use Rattle.costerbloom.proofs.costerbloom_whole.Statement.{statement}

@@ -22,31 +22,28 @@ abbrev μ-loop : tie.MeasureT-loop
 loop-holds : tie.Need-loop-holds Inv-loop μ-loop
 loop-holds c = (search needs, search needs, refl, refl)
 
-mul-bytes : tie.Need-mul-bytes Inv-loop μ-loop
-mul-bytes c =
-    let a = c .before .before .before in
-    omega (arith, at-most-at 15 (now (a .args .halves)) (a .pre .1) (c .before .before .loop .j))
-
-add-bytes-2 : tie.Need-add-bytes-2 Inv-loop μ-loop
-add-bytes-2 c =
-    let a = c .before .before .before .before in
+joined-requires : tie.Need-joined-requires Inv-loop μ-loop
+joined-requires c κs =
+    let a = c .before .before .before .before .before .before in
     let j = c .before .before .before .loop .j in
     let half = at-most-at 15 (now (a .args .halves)) (a .pre .1) in
-    omega (arith, half j, half (j + 1))
+    (half j, half (j + 1))
 
 loop-again : tie.Need-loop-again Inv-loop μ-loop
 loop-again c =
-    let l = c .before .before .before .loop in (
+    let l = c .before .before .before .before .loop in (
       simp length-set (omega arith),
       omega arith,
       simp length-set (l .inv .2),
-      join-turn (l .bytes) _ (l .i) (l .j) (c .before .before .loop-test .taken) (omega arith) (l .inv .3),
+      rw (c .joined .ensures)
+          (join-turn (l .bytes) _ (l .i) (l .j) (c .before .before .before .loop-test .taken) (omega arith) (l .inv .3)),
     )
 
 returns : tie.Need-returns Inv-loop μ-loop
 returns c =
     let l = c .before .loop in
-    all-written (l .bytes) _ _ (l .i) (c .loop-test .left) (ap join (drop-of-length-le (now (c .before .before .args .halves)) {i = l .j} (omega arith))) (l .inv .3)
+    all-written (l .bytes) _ _ (l .i) (c .loop-test .left)
+    (ap join (drop-of-length-le (now (c .before .before .before .before .args .halves)) {i = l .j} (omega arith))) (l .inv .3)
 
 pub join-all-spec : {M : Type 1} → statement M
 join-all-spec =
@@ -56,10 +53,9 @@ join-all-spec =
     μ-loop
     loop-holds
     (λ c. search needs)
-    mul-bytes
     (λ c. search needs)
     (λ c. search needs)
-    add-bytes-2
+    joined-requires
     (λ c. search needs)
     (λ c. search needs)
     (λ c. search needs)

@@ -1,27 +1,114 @@
--- The columns are the list of rows, as antt computes them from it.
-use mathlib.Core.Path.{sym}
-use native.Mathlib.Omega.{arith}
-use Rattle.controls.specs.Table.{rows, rowOf}
-use Rattle.controls.proofs.Rows.{above-127, row-in}
+-- The arms are the rows of the list, in its order.
+use mathlib.Core.Path.{_∙_, sym}
+use Rattle.ground.proofs.Tests.{tests}
 use borrow.Author.Needs.{needs}
+use Rattle.controls.specs.Table.{rows, rowOf}
+use Rattle.controls.proofs.Rows.{unlisted, not-found}
 use Rattle.controls.proofs.table.row_of.Statement.{statement}
 use Rattle.controls.proofs.table.row_of.Tie as tie
 
-returns : tie.Need-returns
-returns c = sym (above-127 _ (c .if1 .taken))
-
-returns-2 : tie.Need-returns-2
-unfolding rowOf rows
-returns-2 c = row-in (c .before .args .controller) (omega arith)
-
 pub row-of-spec : {M : Type 1} → statement M
+unfolding rowOf rows
 row-of-spec =
     tie.close
     (tie.spec
-    returns
-    (λ c. search needs)
-    (λ c. search needs)
-    (λ c. search needs)
-    (λ c. search needs)
-    (λ c. search needs)
-    returns-2)
+    (λ c κs. search needs)
+    (λ c κs. search needs)
+    (λ c κs. search needs)
+    (λ c κs. search needs)
+    (λ c κs. search needs)
+    (λ c κs. search needs)
+    (λ c κs. search needs)
+    (λ c κs. search needs)
+    (λ c κs. search needs)
+    (λ c κs. search needs)
+    (λ c κs. search needs)
+    (λ c κs. search needs)
+    (λ c κs. search needs)
+    (λ c κs. search needs)
+    (λ c κs. search needs)
+    (λ c κs. search needs)
+    (λ c κs. search needs)
+    (λ c κs. search needs)
+    (λ c κs. search needs)
+    (λ c κs. search needs)
+    (λ c κs. search needs)
+    (λ c κs. search needs)
+    (λ c κs. search needs)
+    (λ c κs. search needs)
+    (λ c κs. search needs)
+    (λ c κs. search needs)
+    (λ c κs. search needs)
+    (λ c κs. search needs)
+    (λ c κs. search needs)
+    (λ c κs. search needs)
+    (λ c κs. search needs)
+    (λ c κs. search needs)
+    (λ c κs. search needs)
+    (λ c κs. search needs)
+    (λ c κs. search needs)
+    (λ c κs. search needs)
+    (λ c κs. search needs)
+    (λ c κs. search needs)
+    (λ c κs. search needs)
+    (λ c κs. search needs)
+    (λ c κs. search needs)
+    (λ c κs. search needs)
+    (λ c κs. search needs)
+    (λ c κs. search needs)
+    (λ c κs. search needs)
+    (λ c κs. search needs)
+    (λ c κs. search needs)
+    (λ c κs. search needs)
+    (λ c κs. search needs)
+    (λ c κs. search needs)
+    (λ c. search (tests, c .row .ensures, c .before .match .keys1))
+    (λ c. search (tests, c .row2 .ensures, c .before .match .keys2))
+    (λ c. search (tests, c .row3 .ensures, c .before .match .keys3))
+    (λ c. search (tests, c .row4 .ensures, c .before .match .keys4))
+    (λ c. search (tests, c .row5 .ensures, c .before .match .keys5))
+    (λ c. search (tests, c .row6 .ensures, c .before .match .keys6))
+    (λ c. search (tests, c .row7 .ensures, c .before .match .keys7))
+    (λ c. search (tests, c .row8 .ensures, c .before .match .keys8))
+    (λ c. search (tests, c .row9 .ensures, c .before .match .keys9))
+    (λ c. search (tests, c .row10 .ensures, c .before .match .keys10))
+    (λ c. search (tests, c .row11 .ensures, c .before .match .keys11))
+    (λ c. search (tests, c .row12 .ensures, c .before .match .keys12))
+    (λ c. search (tests, c .row13 .ensures, c .before .match .keys13))
+    (λ c. search (tests, c .row14 .ensures, c .before .match .keys14))
+    (λ c. search (tests, c .row15 .ensures, c .before .match .keys15))
+    (λ c. search (tests, c .row16 .ensures, c .before .match .keys16))
+    (λ c. search (tests, c .row17 .ensures, c .before .match .keys17))
+    (λ c. search (tests, c .row18 .ensures, c .before .match .keys18))
+    (λ c. search (tests, c .row19 .ensures, c .before .match .keys19))
+    (λ c. search (tests, c .row20 .ensures, c .before .match .keys20))
+    (λ c. search (tests, c .row21 .ensures, c .before .match .keys21))
+    (λ c. search (tests, c .row22 .ensures, c .before .match .keys22))
+    (λ c. search (tests, c .row23 .ensures, c .before .match .keys23))
+    (λ c. search (tests, c .row24 .ensures, c .before .match .keys24))
+    (λ c. search (tests, c .row25 .ensures, c .before .match .keys25))
+    (λ c. search (tests, c .row26 .ensures, c .before .match .keys26))
+    (λ c. search (tests, c .row27 .ensures, c .before .match .keys27))
+    (λ c. search (tests, c .row28 .ensures, c .before .match .keys28))
+    (λ c. search (tests, c .row29 .ensures, c .before .match .keys29))
+    (λ c. search (tests, c .row30 .ensures, c .before .match .keys30))
+    (λ c. search (tests, c .row31 .ensures, c .before .match .keys31))
+    (λ c. search (tests, c .row32 .ensures, c .before .match .keys32))
+    (λ c. search (tests, c .row33 .ensures, c .before .match .keys33))
+    (λ c. search (tests, c .row34 .ensures, c .before .match .keys34))
+    (λ c. search (tests, c .row35 .ensures, c .before .match .keys35))
+    (λ c. search (tests, c .row36 .ensures, c .before .match .keys36))
+    (λ c. search (tests, c .row37 .ensures, c .before .match .keys37))
+    (λ c. search (tests, c .row38 .ensures, c .before .match .keys38))
+    (λ c. search (tests, c .row39 .ensures, c .before .match .keys39))
+    (λ c. search (tests, c .row40 .ensures, c .before .match .keys40))
+    (λ c. search (tests, c .row41 .ensures, c .before .match .keys41))
+    (λ c. search (tests, c .row42 .ensures, c .before .match .keys42))
+    (λ c. search (tests, c .row43 .ensures, c .before .match .keys43))
+    (λ c. search (tests, c .row44 .ensures, c .before .match .keys44))
+    (λ c. search (tests, c .row45 .ensures, c .before .match .keys45))
+    (λ c. search (tests, c .row46 .ensures, c .before .match .keys46))
+    (λ c. search (tests, c .row47 .ensures, c .before .match .keys47))
+    (λ c. search (tests, c .row48 .ensures, c .before .match .keys48))
+    (λ c. search (tests, c .row49 .ensures, c .before .match .keys49))
+    (λ c. c .row50 .ensures ∙ sym (not-found unlisted _ rows (Unit {0}) (c .before .match .rest) .1)))

@@ -10,6 +10,6 @@ added-spec =
     (tie.spec
     (λ c. search needs)
     (λ c κs. search needs)
-    (λ c. search tests)
+    (λ c. search (tests, c .opened .ensures))
     (λ c κs. search needs)
-    (λ c. search tests))
+    (λ c. search (tests, c .opened2 .ensures)))

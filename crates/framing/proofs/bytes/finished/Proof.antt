@@ -9,6 +9,6 @@ finished-spec =
     tie.close
     (tie.spec
     (λ c κs. search needs)
-    (λ c. search tests)
+    (λ c. search (tests, c .under .ensures))
     (λ c κs. search needs)
-    (λ c. search tests))
+    (λ c. search (tests, c .under2 .ensures)))

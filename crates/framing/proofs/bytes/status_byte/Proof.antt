@@ -9,8 +9,8 @@ status-byte-spec =
     tie.close
     (tie.spec
     (λ c κs. search needs)
-    (λ c. search tests)
+    (λ c. search (tests, c .under .ensures))
     (λ c κs. search needs)
-    (λ c. search tests)
+    (λ c. search (tests, c .opened .ensures))
     (λ c κs. search needs)
-    (λ c. search tests))
+    (λ c. search (tests, c .under2 .ensures)))

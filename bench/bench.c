@@ -1,0 +1,276 @@
+/* The same work by the library and by plain C, alternating in one run. docs/MEASUREMENTS.md says the method. */
+#include "side.h"
+
+/* What is used of the C library; the kit has no headers for it. */
+struct timespec {
+    long seconds, nanoseconds;
+};
+int clock_gettime(int clock, struct timespec *now);
+int printf(const char *form, ...);
+void qsort(void *base, size_t count, size_t size, int (*order)(const void *, const void *));
+enum { MONOTONIC = 1 };
+
+enum { ROUNDS = 1000, WARM_UP = 100, MOVES = 8192, AGREED = 3000000 };
+
+typedef struct {
+    const char *name, *unit;
+    size_t units; /* in one turn */
+    void (*prepare)(box *); /* before the first round, the same on both sides */
+    uint64_t (*library)(box *), (*plain)(box *);
+} work;
+
+static _Alignas(4096) box boxes[2];
+static uint8_t dump[COSTERBLOOM_LONGEST], moves[1 + 2 * MOVES], turns[1 + 2 * MOVES];
+static const uint8_t HEADER[] = {0xF0, 0x00, 0x01, 0x0C, 0x01}, REQUEST[] = {0xF0, 0, 1, 0x0C, 1, 0, 2, 0xF7};
+
+/* ---- the work, written once for both sides: each side's function is inlined into it, and calls it directly */
+
+#define ONCE static inline __attribute__((always_inline)) uint64_t
+
+ONCE taken(take_call *take, box *b, uint8_t byte)
+{
+    return take(&b->receiver, 0, byte, 0, 0, 0x30, 0x31, 0x30, 0x30, b->memory, sizeof b->memory, b->receive,
+        sizeof b->receive, b->reply, sizeof b->reply);
+}
+
+/* The answers are kept, so that no call can be left out, and compared. */
+ONCE fed(take_call *take, box *b, const uint8_t *bytes, size_t count)
+{
+    uint64_t answers = 0;
+    for (size_t i = 0; i < count; i++)
+        answers = 3 * answers + taken(take, b, bytes[i]);
+    return answers;
+}
+
+ONCE dump_in(take_call *take, box *b)
+{
+    return fed(take, b, dump, sizeof dump);
+}
+
+/* So many that a turn is long beside a look at the clock. */
+enum { REQUESTS = 32, BYTES = 8192, CALLS = 32, SHOWN = 1024 };
+
+ONCE reply_out(take_call *take, box *b)
+{
+    uint64_t answers = 0;
+    for (int i = 0; i < REQUESTS; i++)
+        answers = 3 * answers + fed(take, b, REQUEST, sizeof REQUEST);
+    return answers;
+}
+
+ONCE mixed_moves(take_call *take, box *b)
+{
+    return fed(take, b, moves, sizeof moves);
+}
+
+ONCE one_knob(take_call *take, box *b)
+{
+    return fed(take, b, turns, sizeof turns);
+}
+
+ONCE real_time(take_call *take, box *b)
+{
+    uint64_t answers = 0;
+    for (int i = 0; i < BYTES; i++)
+        answers = 3 * answers + taken(take, b, (uint8_t)(0xF8 + i % 8));
+    return answers;
+}
+
+/* The receiver is set back to the whole dump but for F7, which still stands in the receive buffer. */
+ONCE last_byte(take_call *take, box *b)
+{
+    uint64_t answers = 0;
+    for (int i = 0; i < CALLS; i++) {
+        b->receiver = (costerbloom_receiver){.stored = sizeof dump - 1, .inside = 1};
+        answers = 3 * answers + taken(take, b, 0xF7);
+    }
+    return answers;
+}
+
+ONCE from_panel(whole_call *whole, box *b)
+{
+    uint64_t answers = 0;
+    for (int i = 0; i < CALLS; i++)
+        answers = 3 * answers + whole(dump, sizeof dump, 0, 0, 0x30, 0x31, 0x30, 0x30, b->memory, sizeof b->memory,
+                                    b->reply, sizeof b->reply);
+    return answers;
+}
+
+ONCE shown_back(back_call *back, box *b)
+{
+    uint64_t answers = 0;
+    for (int i = 0; i < SHOWN; i++)
+        answers = 3 * answers + back(b->memory, sizeof b->memory, 13);
+    return answers;
+}
+
+#define SIDES(name, kind)                                                                                              \
+    static uint64_t name##_library(box *b)                                                                             \
+    {                                                                                                                  \
+        return name(costerbloom_##kind, b);                                                                            \
+    }                                                                                                                  \
+    static uint64_t name##_plain(box *b)                                                                               \
+    {                                                                                                                  \
+        return name(plain_##kind, b);                                                                                  \
+    }
+
+SIDES(dump_in, take)
+SIDES(reply_out, take)
+SIDES(mixed_moves, take)
+SIDES(one_knob, take)
+SIDES(real_time, take)
+SIDES(last_byte, take)
+SIDES(from_panel, whole)
+SIDES(shown_back, back)
+
+/* ---- what is fed */
+
+static void make_dump(void)
+{
+    uint64_t seed = 36;
+    __builtin_memcpy(dump, HEADER, sizeof HEADER);
+    dump[5] = 1;
+    dump[6] = 2;
+    for (size_t i = 8; i < sizeof dump - 1; i++)
+        dump[i] = (uint8_t)below(&seed, 16);
+    dump[sizeof dump - 1] = 0xF7;
+}
+
+/* Each of the 49 controllers as often as the others, in no order, so that all formulas and effects come up; one in 16
+ * is a number that may be in no table, and values run over the whole range, so that each of 17, 18, 19 comes up too. */
+static void make_moves(void)
+{
+    static const uint8_t CONTROLLERS[49] = {25, 26, 27, 28, 50, 36, 22, 73, 47, 37, 13, 20, 14, 15, 16, 21, 17, 24, 32,
+        34, 38, 39, 40, 41, 18, 72, 1, 4, 44, 45, 7, 46, 12, 71, 19, 23, 30, 62, 49, 42, 51, 52, 53, 54, 55, 56, 57, 58,
+        59};
+    uint64_t seed = 49;
+    moves[0] = turns[0] = 0xB0;
+    for (size_t i = 1; i < sizeof moves; i += 2) {
+        moves[i] = below(&seed, 16) ? CONTROLLERS[below(&seed, 49)] : (uint8_t)below(&seed, 128);
+        moves[i + 1] = (uint8_t)below(&seed, moves[i] == 19 ? 17 : 128);
+        turns[i] = 7;
+        turns[i + 1] = (uint8_t)(i / 2 % 128);
+    }
+}
+
+static void fresh(box *b)
+{
+    uint64_t seed = 72;
+    *b = (box){.receiver = {.stored = 0}};
+    for (size_t i = 0; i < sizeof b->memory; i++)
+        b->memory[i] = (uint8_t)below(&seed, 256);
+}
+
+static void with_dump(box *b)
+{
+    fresh(b);
+    __builtin_memcpy(b->receive, dump, sizeof dump - 1);
+}
+
+/* Byte 9 holds what no value of controller 13 gives: every value is in vain. */
+static void with_none(box *b)
+{
+    fresh(b);
+    b->memory[COSTERBLOOM_MEMORY - COSTERBLOOM_PROGRAM + 9] = 0xFF;
+}
+
+static void inside(box *b)
+{
+    with_dump(b);
+    b->receiver = (costerbloom_receiver){.stored = 2000, .inside = 1};
+}
+
+static const work WORKS[] = {
+    {"a long dump in, byte by byte", "byte", sizeof dump, fresh, dump_in_library, dump_in_plain},
+    {"a long reply out, its request", "request", REQUESTS, fresh, reply_out_library, reply_out_plain},
+    {"controllers, all kinds mixed", "byte", sizeof moves, fresh, mixed_moves_library, mixed_moves_plain},
+    {"controllers, one knob turned", "byte", sizeof turns, fresh, one_knob_library, one_knob_plain},
+    {"real-time bytes", "byte", BYTES, fresh, real_time_library, real_time_plain},
+    {"real-time bytes inside a SysEx", "byte", BYTES, inside, real_time_library, real_time_plain},
+    {"one call: F7 of a long dump", "call", CALLS, with_dump, last_byte_library, last_byte_plain},
+    {"one call: a long dump, panel", "call", CALLS, fresh, from_panel_library, from_panel_plain},
+    {"one call: shown back, none found", "call", SHOWN, with_none, shown_back_library, shown_back_plain},
+};
+
+/* ---- the method */
+
+static double time_of(uint64_t (*turn)(box *), box *b, uint64_t *answers)
+{
+    struct timespec from, to;
+    clock_gettime(MONOTONIC, &from);
+    *answers = turn(b);
+    clock_gettime(MONOTONIC, &to);
+    return (double)(to.seconds - from.seconds) * 1e9 + (double)(to.nanoseconds - from.nanoseconds);
+}
+
+static int by_size(const void *a, const void *b)
+{
+    double x = *(const double *)a, y = *(const double *)b;
+    return (x > y) - (x < y);
+}
+
+/* The median of all rounds. */
+static double middle(double *values)
+{
+    qsort(values, ROUNDS, sizeof *values, by_size);
+    return values[ROUNDS / 2];
+}
+
+/* One round: a turn of each side. In every second round the other side is first, and in every second two the sides
+ * change boxes: both boxes hold the same, and where one lies in memory must favour nobody. */
+static int round_same(const work *w, int i, double *library, double *plain)
+{
+    box *one = &boxes[i >> 1 & 1], *other = &boxes[~i >> 1 & 1];
+    uint64_t x, y;
+    if (i & 1)
+        *plain = time_of(w->plain, other, &y);
+    *library = time_of(w->library, one, &x);
+    if (!(i & 1))
+        *plain = time_of(w->plain, other, &y);
+    return x == y;
+}
+
+static int measure(const work *w)
+{
+    static double library[ROUNDS], plain[ROUNDS], ratio[ROUNDS];
+    w->prepare(&boxes[0]);
+    w->prepare(&boxes[1]);
+    for (int i = 0; i < WARM_UP + ROUNDS; i++) {
+        int at = i % ROUNDS; /* the last rounds overwrite those of the warm-up */
+        if (!round_same(w, i, &library[at], &plain[at]))
+            return 0;
+        ratio[at] = library[at] / plain[at];
+    }
+    double units = (double)w->units;
+    printf(
+        "%s\t%s\t%.2f\t%.2f\t%.3f\n", w->name, w->unit, middle(library) / units, middle(plain) / units, middle(ratio));
+    return same_box(&boxes[0], &boxes[1]);
+}
+
+/* What the mixed moves are made of: how many got each number. */
+static void count_moves(void)
+{
+    unsigned counts[32] = {0};
+    fresh(&boxes[0]);
+    for (size_t i = 0; i < sizeof moves; i++)
+        counts[taken(costerbloom_take, &boxes[0], moves[i]) & 31]++;
+    printf("# of %d mixed controllers %u are applied, %u not in the table, %u out of range, %u not selected\n", MOVES,
+        counts[3], counts[17], counts[18], counts[19]);
+}
+
+int main(void)
+{
+    make_dump();
+    make_moves();
+    uint32_t agreed = agree(&boxes[0], &boxes[1], AGREED);
+    printf("# %u random calls answered alike by both, buffers and receivers too\n", agreed);
+    if (agreed != AGREED)
+        return 1;
+    count_moves();
+    for (size_t i = 0; i < sizeof WORKS / sizeof *WORKS; i++)
+        if (!measure(&WORKS[i])) {
+            printf("%s: the two sides differ\n", WORKS[i].name);
+            return 1;
+        }
+    return 0;
+}

@@ -1,0 +1,479 @@
+/* What makes it fast: half bytes are tested by one OR over all of them and joined in loops that the compiler turns
+ * into vector code, every formula is one multiplication and one shift, and a byte's tests stand in the order in which
+ * a running box meets them. Nothing is skipped: 30, 31 and 32 are tested at every call. */
+#include "plain.h"
+
+enum {
+    PROGRAM = COSTERBLOOM_PROGRAM,
+    PROGRAMS = 36,
+    EDIT = PROGRAMS * PROGRAM,
+    MEMORY = COSTERBLOOM_MEMORY,
+    LONGEST = COSTERBLOOM_LONGEST,
+    LIMIT = LONGEST - 1,
+    REFUSAL = 65536
+};
+
+/* Numbers the box returns. */
+enum {
+    TAKEN = 0,
+    STORED = 1,
+    REPLIED = 2,
+    APPLIED = 3,
+    CUT = 4,
+    TOO_LONG = 10,
+    NOT_OURS = 11,
+    UNKNOWN = 12,
+    WRONG_LENGTH = 13,
+    NO_PROGRAM = 14,
+    WRONG_VERSION = 15,
+    ABOVE_0F = 16,
+    NO_CONTROLLER = 17,
+    OUT_OF_RANGE = 18,
+    NOT_SELECTED = 19,
+    OTHER_CHANNEL = 20,
+    OTHER_KIND = 21,
+    OTHER_IDENTITY = 22,
+    TOO_SHORT = 30,
+    NO_SOCKET = 31,
+    NOT_SOUND = 32,
+    NO_VALUE = 40
+};
+
+typedef struct {
+    uint8_t channel, omni, revision[4];
+} settings;
+
+static inline int are_valid(const settings *s)
+{
+    return s->channel <= 15 && s->omni <= 1 &&
+           (s->revision[0] | s->revision[1] | s->revision[2] | s->revision[3]) <= 0x7F;
+}
+
+/* ---- half bytes */
+
+/* All bits that any of the bytes has: one pass without a way out, which the compiler can do 16 bytes at a time. */
+static inline uint8_t bits_of(const uint8_t *bytes, size_t count)
+{
+    uint8_t bits = 0;
+    for (size_t i = 0; i < count; i++)
+        bits |= bytes[i];
+    return bits;
+}
+
+/* Two half bytes are read as one number of the processor, lowest first: byte by byte the loop is four times as slow. */
+static inline void join(uint8_t *restrict bytes, const uint8_t *restrict halves, size_t count)
+{
+    for (size_t i = 0; i < count; i++) {
+        uint16_t pair;
+        __builtin_memcpy(&pair, halves + 2 * i, 2);
+        bytes[i] = (uint8_t)(pair << 4 | pair >> 8);
+    }
+}
+
+static inline void split(uint8_t *restrict halves, const uint8_t *restrict bytes, size_t count)
+{
+    for (size_t i = 0; i < count; i++) {
+        halves[2 * i] = bytes[i] >> 4;
+        halves[2 * i + 1] = bytes[i] & 0x0F;
+    }
+}
+
+/* ---- controllers */
+
+/* The number for v is (v x factor + addend) / 65536, exact for v up to 127. Effects are bits, and bit 0 is always
+ * selected. The upper and lower seven bits of m, which need the stored number, are told by a factor of 0. */
+typedef struct {
+    int factor, addend;
+    uint8_t place, width, highest, effects;
+} row;
+
+enum { ALWAYS = 1, SWELL = 2, COMPRESSOR = 4, CHORUS = 8, ROTARY = 16, TREMOLO = 32, UPPER = 30, LOWER = 62 };
+
+#define V_64(b)                                                                                                        \
+    {                                                                                                                  \
+        1024, 0, b, 1, 127, ALWAYS                                                                                     \
+    }
+#define V_2(b)                                                                                                         \
+    {                                                                                                                  \
+        32768, 0, b, 1, 127, ALWAYS                                                                                    \
+    }
+#define V(b, top)                                                                                                      \
+    {                                                                                                                  \
+        65536, 0, b, 1, top, ALWAYS                                                                                    \
+    }
+#define M                                                                                                              \
+    {                                                                                                                  \
+        0, 0, 26, 3, 127, ALWAYS                                                                                       \
+    }
+
+static const row ROWS[128] = {
+    [25] = V_64(0),
+    [26] = V_64(1),
+    [27] = V_64(2),
+    [28] = V_64(3),
+    [50] = V_64(4),
+    [36] = V_64(5),
+    [22] = V_64(6),
+    [73] = V_64(7),
+    [47] = V_64(24),
+    [37] = V_64(38),
+    [13] = V_2(9),
+    [20] = V_2(10),
+    [14] = V_2(11),
+    [15] = V_2(12),
+    [16] = V_2(13),
+    [21] = V_2(14),
+    [17] = V_2(15),
+    [24] = V_2(17),
+    [32] = V_2(34),
+    [34] = V_2(36),
+    [38] = V_2(39),
+    [39] = V_2(40),
+    [40] = V_2(41),
+    [41] = V_2(42),
+    [18] = V_2(43),
+    [72] = V_2(45),
+    [1] = V_2(47),
+    [4] = V(18, 127),
+    [44] = V(19, 127),
+    [45] = V(20, 127),
+    [7] = V(22, 127),
+    [46] = V(23, 127),
+    [12] = V(8, 27),
+    [71] = V(44, 15),
+    [19] = V(46, 15),
+    [23] = {-194 * 256, 127 * 194 * 256, 16, 1, 127, ALWAYS},
+    [UPPER] = M,
+    [LOWER] = M,
+    [49] = {32768, 0, 48, 1, 127, SWELL},
+    [42] = {2979, 0, 48, 1, 127, COMPRESSOR},
+    [51] = {50 * 65536, 0, 48, 2, 127, CHORUS},
+    [52] = {161320, 0, 50, 2, 127, CHORUS},
+    [53] = {65536, 0, 52, 1, 127, CHORUS},
+    [54] = {399458, 0, 53, 2, 127, CHORUS},
+    [55] = {1024, 0, 48, 1, 127, ROTARY},
+    [56] = {22 * 65536, 100 * 65536, 49, 2, 127, ROTARY},
+    [57] = {22 * 65536, 100 * 65536, 51, 2, 127, ROTARY},
+    [58] = {25 * 65536, 0, 48, 2, 127, TREMOLO},
+    [59] = {65536, 0, 50, 1, 127, TREMOLO},
+};
+
+/* What each value of byte 46 selects. */
+static const uint8_t SELECTED[16] = {CHORUS, CHORUS, ROTARY, CHORUS, CHORUS, TREMOLO, 0, COMPRESSOR, CHORUS, TREMOLO, 0,
+    COMPRESSOR, CHORUS, CHORUS, SWELL, CHORUS};
+
+static inline int is_selected(const row *r, const uint8_t *edit)
+{
+    return (r->effects & ALWAYS) || (edit[46] <= 15 && (r->effects & SELECTED[edit[46]]));
+}
+
+static inline uint32_t number_of(const row *r, uint32_t value)
+{
+    return (uint32_t)((int)value * r->factor + r->addend) >> 16;
+}
+
+static inline uint32_t load(const uint8_t *bytes, uint32_t width)
+{
+    uint32_t number = bytes[0];
+    if (width > 1)
+        number |= (uint32_t)bytes[1] << 8;
+    if (width > 2)
+        number |= (uint32_t)bytes[2] << 16;
+    return number;
+}
+
+static inline uint32_t m_of(uint32_t stored)
+{
+    uint32_t m = stored / 6;
+    return m < 16383 ? m : 16383;
+}
+
+static void store_m(uint8_t *bytes, uint32_t controller, uint32_t value)
+{
+    uint32_t m = m_of(load(bytes, 3));
+    uint32_t number = 6 * (controller == UPPER ? value << 7 | (m & 0x7F) : (m & ~0x7Fu) | value);
+    bytes[0] = (uint8_t)number;
+    bytes[1] = (uint8_t)(number >> 8);
+    bytes[2] = (uint8_t)(number >> 16);
+}
+
+static inline uint32_t apply(uint32_t controller, uint32_t value, uint8_t *edit)
+{
+    const row *r = &ROWS[controller];
+    if (!r->width)
+        return NO_CONTROLLER;
+    if (value > r->highest)
+        return OUT_OF_RANGE;
+    if (!is_selected(r, edit))
+        return NOT_SELECTED;
+    uint8_t *bytes = edit + r->place;
+    if (!r->factor) {
+        store_m(bytes, controller, value);
+        return APPLIED;
+    }
+    uint32_t number = number_of(r, value);
+    bytes[0] = (uint8_t)number;
+    if (r->width == 2)
+        bytes[1] = (uint8_t)(number >> 8);
+    return APPLIED;
+}
+
+uint32_t plain_scale(uint32_t controller, uint32_t value)
+{
+    if (controller > 127 || !ROWS[controller].factor)
+        return REFUSAL + NO_CONTROLLER;
+    if (value > ROWS[controller].highest)
+        return REFUSAL + OUT_OF_RANGE;
+    return number_of(&ROWS[controller], value);
+}
+
+static inline uint32_t back_m(uint32_t controller, uint32_t stored)
+{
+    uint32_t m = m_of(stored);
+    if (stored != 6 * m)
+        return REFUSAL + NO_VALUE;
+    return controller == UPPER ? m >> 7 : m & 0x7F;
+}
+
+/* The smallest value whose formula has come up to the stored number, or down to it where the formula falls: no smaller
+ * one gives it, so this one does or none does. */
+static inline uint32_t back_row(const row *r, uint32_t stored)
+{
+    long long way = ((long long)stored << 16) - r->addend, step = r->factor;
+    if (step < 0) {
+        way = -way - 65535;
+        step = -step;
+    }
+    long long value = way <= 0 ? 0 : (way + step - 1) / step;
+    if (value > r->highest || number_of(r, (uint32_t)value) != stored)
+        return REFUSAL + NO_VALUE;
+    return (uint32_t)value;
+}
+
+uint32_t plain_back(const uint8_t *memory, size_t memory_length, uint32_t controller)
+{
+    if (memory_length < MEMORY)
+        return REFUSAL + TOO_SHORT;
+    if (controller > 127 || !ROWS[controller].width)
+        return REFUSAL + NO_CONTROLLER;
+    const row *r = &ROWS[controller];
+    const uint8_t *edit = memory + EDIT;
+    if (!is_selected(r, edit))
+        return REFUSAL + NOT_SELECTED;
+    uint32_t stored = load(edit + r->place, r->width);
+    return r->factor ? back_row(r, stored) : back_m(controller, stored);
+}
+
+/* ---- finished messages */
+
+enum { REQUEST = 0, DUMP = 1, ONE = 0, EDITED = 1, ALL = 2 };
+
+static const uint8_t HEADER[5] = {0xF0, 0x00, 0x01, 0x0C, 0x01};
+
+/* Lengths without F7, by opcode and type. */
+static const uint16_t LENGTHS[2][3] = {{8, 7, 7}, {9 + 2 * PROGRAM, 8 + 2 * PROGRAM, 8 + 2 * PROGRAMS *PROGRAM}};
+
+static inline uint64_t replied(size_t length)
+{
+    return REPLIED | (uint64_t)length << 8;
+}
+
+static uint64_t identify(const settings *s, uint8_t cc, uint8_t *restrict reply)
+{
+    static const uint8_t IDENTITY[17] = {0xF0, 0x7E, 0, 6, 2, 0, 1, 0x0C, 0, 0, 0, 1, 0, 0, 0, 0, 0xF7};
+    if (cc != s->channel && cc != 0x7F && !s->omni)
+        return OTHER_IDENTITY;
+    __builtin_memcpy(reply, IDENTITY, sizeof IDENTITY);
+    reply[2] = cc;
+    __builtin_memcpy(reply + 12, s->revision, 4);
+    return replied(sizeof IDENTITY);
+}
+
+static uint64_t answer(
+    uint8_t type, const uint8_t *body, const uint8_t *restrict part, size_t count, uint8_t *restrict reply)
+{
+    size_t at = sizeof HEADER;
+    __builtin_memcpy(reply, HEADER, sizeof HEADER);
+    reply[at++] = DUMP;
+    reply[at++] = type;
+    if (type == ONE)
+        reply[at++] = body[7];
+    reply[at++] = 0;
+    split(reply + at, part, count);
+    at += 2 * count;
+    reply[at++] = 0xF7;
+    return replied(at);
+}
+
+static uint64_t store(const uint8_t *restrict fields, uint8_t *restrict part, size_t count)
+{
+    if (fields[0] != 0)
+        return WRONG_VERSION;
+    if (bits_of(fields + 1, 2 * count) > 0x0F)
+        return ABOVE_0F;
+    join(part, fields + 1, count);
+    return STORED;
+}
+
+static inline int is_identity(const uint8_t *body, size_t length)
+{
+    return length == 5 && body[0] == 0xF0 && body[1] == 0x7E && body[2] <= 0x7F && body[3] == 6 && body[4] == 1;
+}
+
+/* A body: F0 and the bytes after it, without F7. Nothing is assumed of its bytes. */
+static uint64_t sysex(const settings *s, const uint8_t *body, size_t length, uint8_t *memory, uint8_t *reply)
+{
+    if (is_identity(body, length))
+        return identify(s, body[2], reply);
+    if (length < sizeof HEADER || __builtin_memcmp(body, HEADER, sizeof HEADER) != 0)
+        return NOT_OURS;
+    if (length < 7 || body[5] > DUMP || body[6] > ALL)
+        return UNKNOWN;
+    uint8_t opcode = body[5], type = body[6];
+    if (length != LENGTHS[opcode][type])
+        return WRONG_LENGTH;
+    if (type == ONE && body[7] >= PROGRAMS)
+        return NO_PROGRAM;
+    uint8_t *part = type == ONE ? memory + body[7] * PROGRAM : type == EDITED ? memory + EDIT : memory;
+    size_t count = type == ALL ? EDIT : PROGRAM;
+    if (opcode == REQUEST)
+        return answer(type, body, part, count, reply);
+    return store(body + (type == ONE ? 8 : 7), part, count);
+}
+
+static inline uint64_t channel_message(
+    const settings *s, uint8_t status, uint8_t first, uint8_t second, uint8_t *memory)
+{
+    if ((status & 0x0F) != s->channel && !s->omni)
+        return OTHER_CHANNEL;
+    if (status >> 4 != 0xB)
+        return OTHER_KIND;
+    return apply(first, second, memory + EDIT);
+}
+
+/* ---- from bytes to finished messages */
+
+static inline int takes_two(uint8_t status)
+{
+    return status >= 0x80 && status <= 0xEF && (status & 0xE0) != 0xC0;
+}
+
+static inline int is_sound_inside(const costerbloom_receiver *r)
+{
+    if (r->inside != 1 || (r->running | r->held | r->waiting) || r->stored < 1 || r->stored > LIMIT)
+        return 0;
+    return r->over == 0 || (r->over == 1 && r->stored == LIMIT);
+}
+
+static inline int is_sound_outside(const costerbloom_receiver *r)
+{
+    if (r->stored | r->over)
+        return 0;
+    if (r->held)
+        return r->held == 1 && r->waiting <= 0x7F && takes_two(r->running);
+    return r->waiting == 0 && (r->running == 0 || (r->running >= 0x80 && r->running <= 0xEF));
+}
+
+static inline void clear(costerbloom_receiver *r, uint8_t running)
+{
+    *r = (costerbloom_receiver){.running = running};
+}
+
+/* A status byte below F8 outside a SysEx, or one that has just cut it. */
+static inline void status_byte(costerbloom_receiver *r, uint8_t byte, uint8_t *receive)
+{
+    clear(r, byte < 0xF0 ? byte : 0);
+    if (byte == 0xF0) {
+        receive[0] = byte;
+        r->stored = 1;
+        r->inside = 1;
+    }
+}
+
+static inline uint64_t take_inside(
+    costerbloom_receiver *r, uint8_t byte, const settings *s, uint8_t *memory, uint8_t *receive, uint8_t *reply)
+{
+    if (byte < 0x80) {
+        if (r->stored < LIMIT)
+            receive[r->stored++] = byte;
+        else
+            r->over = 1;
+        return TAKEN;
+    }
+    if (byte >= 0xF8)
+        return TAKEN;
+    if (byte != 0xF7) {
+        status_byte(r, byte, receive);
+        return CUT;
+    }
+    uint8_t over = r->over;
+    size_t length = r->stored;
+    clear(r, 0);
+    return over ? TOO_LONG : sysex(s, receive, length, memory, reply);
+}
+
+static inline uint64_t take_outside(
+    costerbloom_receiver *r, uint8_t byte, const settings *s, uint8_t *memory, uint8_t *receive)
+{
+    if (byte >= 0x80) {
+        if (byte < 0xF8)
+            status_byte(r, byte, receive);
+        return TAKEN;
+    }
+    uint8_t status = r->running;
+    if (!status)
+        return TAKEN;
+    if (!takes_two(status))
+        return channel_message(s, status, byte, 0, memory);
+    if (!r->held) {
+        r->held = 1;
+        r->waiting = byte;
+        return TAKEN;
+    }
+    uint8_t first = r->waiting;
+    r->held = 0;
+    r->waiting = 0;
+    return channel_message(s, status, first, byte, memory);
+}
+
+uint64_t plain_take(costerbloom_receiver *receiver, uint32_t socket, uint8_t byte, uint8_t channel, uint8_t omni,
+    uint8_t revision0, uint8_t revision1, uint8_t revision2, uint8_t revision3, uint8_t *memory, size_t memory_length,
+    uint8_t *receive, size_t receive_length, uint8_t *reply, size_t reply_length)
+{
+    const settings s = {channel, omni, {revision0, revision1, revision2, revision3}};
+    if (memory_length < MEMORY || receive_length < LONGEST || reply_length < LONGEST)
+        return TOO_SHORT;
+    if (socket > 1)
+        return NO_SOCKET;
+    if (!are_valid(&s))
+        return NOT_SOUND;
+    if (receiver->inside) {
+        if (!is_sound_inside(receiver))
+            return NOT_SOUND;
+        return take_inside(receiver, byte, &s, memory, receive, reply);
+    }
+    if (!is_sound_outside(receiver))
+        return NOT_SOUND;
+    return take_outside(receiver, byte, &s, memory, receive);
+}
+
+static inline int is_framed(const uint8_t *message, size_t length)
+{
+    return length >= 2 && message[0] == 0xF0 && message[length - 1] == 0xF7 && bits_of(message + 1, length - 2) <= 0x7F;
+}
+
+uint64_t plain_whole(const uint8_t *message, size_t message_length, uint8_t channel, uint8_t omni, uint8_t revision0,
+    uint8_t revision1, uint8_t revision2, uint8_t revision3, uint8_t *memory, size_t memory_length, uint8_t *reply,
+    size_t reply_length)
+{
+    const settings s = {channel, omni, {revision0, revision1, revision2, revision3}};
+    if (memory_length < MEMORY || reply_length < LONGEST)
+        return TOO_SHORT;
+    if (!are_valid(&s))
+        return NOT_SOUND;
+    if (message_length > LONGEST)
+        return TOO_LONG;
+    if (!is_framed(message, message_length))
+        return NOT_OURS;
+    return sysex(&s, message, message_length - 1, memory, reply);
+}

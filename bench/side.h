@@ -1,0 +1,52 @@
+/* The two sides of a comparison: all that a call is lent, and the calls with a lent box filled in. */
+#ifndef SIDE_H
+#define SIDE_H
+
+#include "plain.h"
+
+typedef uint64_t take_call(costerbloom_receiver *, uint32_t, uint8_t, uint8_t, uint8_t, uint8_t, uint8_t, uint8_t,
+    uint8_t, uint8_t *, size_t, uint8_t *, size_t, uint8_t *, size_t);
+typedef uint64_t whole_call(const uint8_t *, size_t, uint8_t, uint8_t, uint8_t, uint8_t, uint8_t, uint8_t, uint8_t *,
+    size_t, uint8_t *, size_t);
+typedef uint32_t back_call(const uint8_t *, size_t, uint32_t);
+
+/* Each buffer begins on a cache line of its own on both sides, so that neither is luckier. */
+typedef struct {
+    _Alignas(64) costerbloom_receiver receiver;
+    _Alignas(64) uint8_t memory[COSTERBLOOM_MEMORY];
+    _Alignas(64) uint8_t receive[COSTERBLOOM_LONGEST];
+    _Alignas(64) uint8_t reply[COSTERBLOOM_LONGEST];
+} box;
+
+/* A repeatable stream of numbers: xorshift, never 0. */
+static inline uint32_t below(uint64_t *seed, uint32_t limit)
+{
+    *seed ^= *seed << 13;
+    *seed ^= *seed >> 7;
+    *seed ^= *seed << 17;
+    return (uint32_t)(*seed >> 32) % limit;
+}
+
+static inline int same(const void *a, const void *b, size_t length)
+{
+    return __builtin_memcmp(a, b, length) == 0;
+}
+
+/* The padding of the record is nobody's. */
+static inline int same_receiver(const costerbloom_receiver *a, const costerbloom_receiver *b)
+{
+    return a->stored == b->stored && a->inside == b->inside && a->over == b->over && a->running == b->running &&
+           a->held == b->held && a->waiting == b->waiting;
+}
+
+static inline int same_box(const box *a, const box *b)
+{
+    return same_receiver(&a->receiver, &b->receiver) && same(a->memory, b->memory, sizeof a->memory) &&
+           same(a->receive, b->receive, sizeof a->receive) && same(a->reply, b->reply, sizeof a->reply);
+}
+
+/* Calls both sides with the same random calls, refused ones too, and compares all that is left. Returns how many calls
+ * agreed; less than `calls` where one did not. */
+uint32_t agree(box *library, box *plain, uint32_t calls);
+
+#endif
