@@ -7,11 +7,10 @@ from box import EDIT, LEAST, PROGRAM, REPLY
 from chance import add_random
 from controllers import TABLE
 from judging import add_identities, add_kinds, add_orders
-from lent import (FULL, NO_CONTROLLERS, NO_SOCKETS, SOUND, UNSOUND, add_back,
+from lent import (FULL, NO_CONTROLLERS, SOUND, UNSOUND, add_back,
                   add_back_order, add_beyond, add_lengths, add_long_buffers,
-                  add_no_sockets, add_odd, add_order, add_other,
-                  add_receivers, add_refused, add_scaling, add_stale,
-                  add_whole_order, add_wrong_settings)
+                  add_odd, add_receivers, add_scaling, add_stale,
+                  add_turned_away)
 from messages import HALVES, changed, dump, identity, request, resized, wave
 from player import ROOMS
 from script import Script
@@ -63,12 +62,7 @@ def add_lent(script):
     for buffer, least in enumerate(LEAST):
         add_lengths(script, buffer, (least - 1, ROOMS[buffer]))
     add_long_buffers(script, request(EDIT))
-    add_order(script)
-    add_other(script)
-    add_whole_order(script)
-    add_no_sockets(script, NO_SOCKETS)
-    add_wrong_settings(script)
-    add_refused(script)
+    add_turned_away(script)
     add_scaling(script, (*TABLE, *NO_CONTROLLERS), (64, 127, 128, 1 << 24))
     for controller in (25, 13, 4, 12, 23, 30, 62, 49, 52, 56):
         add_back(script, controller)

@@ -262,6 +262,16 @@ def add_back_order(script):
         script.lend_back(MEMORY)
 
 
+def add_turned_away(script):
+    """Calls that are turned away, and the order of their tests."""
+    add_order(script)
+    add_other(script)
+    add_whole_order(script)
+    add_no_sockets(script, NO_SOCKETS)
+    add_wrong_settings(script)
+    add_refused(script)
+
+
 def make_lent():
     """Return the script of what is lent, scaled and shown back."""
     script = Script()
@@ -274,12 +284,7 @@ def make_lent():
     for buffer in range(len(ROOMS)):
         add_lengths(script, buffer, lengths_of(buffer))
     add_long_buffers(script, request(ALL))
-    add_order(script)
-    add_other(script)
-    add_whole_order(script)
-    add_no_sockets(script, NO_SOCKETS)
-    add_wrong_settings(script)
-    add_refused(script)
+    add_turned_away(script)
     add_scaling(script, (*TABLE, *NO_CONTROLLERS), VALUES)
     for controller in TABLE:
         add_back(script, controller)
