@@ -1,2 +1,3 @@
 pub mod ToldApart
+pub mod AsTheBox
 pub mod OneResult

@@ -74,6 +74,7 @@ fn take(
     }
 }
 
+// A whole message from the panel.
 #[no_mangle]
 pub extern "C" fn costerbloom_whole(
     message: &[u8],
@@ -93,6 +94,7 @@ pub extern "C" fn costerbloom_whole(
     numbers::packed(answer)
 }
 
+// The number that a controller's formula gives for a value.
 #[no_mangle]
 pub extern "C" fn costerbloom_scale(controller: u32, value: u32) -> u32
     ensures { λ r. ⌜ r ≡ scaleNumber controller value ⌝ }
@@ -101,6 +103,7 @@ pub extern "C" fn costerbloom_scale(controller: u32, value: u32) -> u32
     numbers::said(reading)
 }
 
+// The value that the edit buffer shows for a controller.
 #[no_mangle]
 pub extern "C" fn costerbloom_back(memory: &[u8], controller: u32) -> u32
     ensures { λ r. ⌜ r ≡ backNumber controller (now (memory .entry)) ⌝ }
@@ -109,7 +112,7 @@ pub extern "C" fn costerbloom_back(memory: &[u8], controller: u32) -> u32
     numbers::said(reading)
 }
 
-// The controller's value as the edit buffer of memory holds it.
+// The same, told apart by an enum.
 fn back(memory: &[u8], controller: u32) -> Reading
     ensures { λ r. ⌜ r ≡ memoryBack controller (now (memory .entry)) ⌝ }
 {
