@@ -258,14 +258,16 @@ static void count_moves(void)
         counts[3], counts[17], counts[18], counts[19]);
 }
 
-int main(void)
+/* With a word, whatever it is, the two sides are held against each other and nothing is measured. */
+int main(int words, char **unused)
 {
+    (void)unused;
     make_dump();
     make_moves();
     uint32_t agreed = agree(&boxes[0], &boxes[1], AGREED);
     printf("# %u random calls answered alike by both, buffers and receivers too\n", agreed);
-    if (agreed != AGREED)
-        return 1;
+    if (agreed != AGREED || words > 1)
+        return agreed != AGREED;
     count_moves();
     for (size_t i = 0; i < sizeof WORKS / sizeof *WORKS; i++)
         if (!measure(&WORKS[i])) {

@@ -33,3 +33,11 @@ build_c() {
         "$lib/Scrt1.o" "$lib/crti.o" "$lib/crtbeginS.o" "${objects[@]}" "${archives[@]}" \
         --start-group "$lib/libc.so.6" "$lib/libc_nonshared.a" "$lib/libgcc.a" --end-group "$lib/crtendS.o" "$lib/crtn.o"
 }
+
+# The archive of the C interface, proved and built where it is not there yet or a source is newer. Called in the root.
+library=target/staticlib/libcosterbloom.a
+build_library() {
+    [ ! -f "$library" ] || [ -n "$(find crates -name '*.rt' -newer "$library" -print -quit)" ] || return 0
+    local said
+    said=$("$rt" staticlib costerbloom 2>&1 </dev/null) || { printf '%s\n' "$said" >&2; return 1; }
+}
