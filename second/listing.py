@@ -10,17 +10,12 @@ dumps, good and damaged, and with real-time bytes anywhere.
 import sys
 from itertools import cycle
 
-from box import ALL, DUMP, EDIT, END_BYTE, HEADER, PROGRAM, REQUEST, Box
-from controllers import split
+from box import ALL, EDIT, EDIT_START, END_BYTE, PROGRAM, Box
+from controllers import EDIT_LENGTH, split
+from messages import changed, dump, identity, request
 
-PROGRAM_LENGTH = 72
 REAL_TIME = bytes(range(0xF8, 0x100))  # "F8 to FF"
 NUMBERS = {1, 2, 3, 4, *range(10, 23)}
-
-
-def sysex(*fields):
-    """Return a message of the box's header and some fields."""
-    return HEADER + b''.join(map(bytes, fields)) + END_BYTE
 
 
 def pattern(length, seed):
@@ -28,29 +23,29 @@ def pattern(length, seed):
     return bytes((seed + 37 * place) % 256 for place in range(length))
 
 
-def damaged(message, place, byte):
-    """Return a message with another byte at a place."""
-    return message[:place] + bytes((byte,)) + message[place + 1:]
+def halves(length, seed):
+    """Return the half bytes of such bytes."""
+    return split(pattern(length, seed))
 
 
 def dumps():
     """Yield dumps of each type, good and damaged, and requests for them."""
-    one = sysex((DUMP, PROGRAM, 0x23, 0), split(pattern(PROGRAM_LENGTH, 3)))
-    edit = sysex((DUMP, EDIT, 0), split(pattern(PROGRAM_LENGTH, 5)))
-    every = sysex((DUMP, ALL, 0), split(pattern(36 * PROGRAM_LENGTH, 7)))
-    ask = sysex((REQUEST, ALL))
+    one = dump(PROGRAM, halves(EDIT_LENGTH, 3), 0x23)
+    edit = dump(EDIT, halves(EDIT_LENGTH, 5))
+    every = dump(ALL, halves(EDIT_START, 7))
+    ask = request(ALL)
     for good, data in ((one, 9), (edit, 8), (every, 8)):
         # "a bad half byte in program 36 then leaves 35 new ones"
-        yield from (damaged(good, -2, 0x10), ask, good, ask)
-        yield damaged(good, data - 1, 1)       # 15
-        yield damaged(good, data, 0x7F)        # 16
-        yield damaged(good, 6, 3)              # 12
-        yield damaged(good, 4, 2)              # 11
+        yield from (changed(good, -2, 0x10), ask, good, ask)
+        yield changed(good, data - 1, 1)       # 15
+        yield changed(good, data, 0x7F)        # 16
+        yield changed(good, 6, 3)              # 12
+        yield changed(good, 4, 2)              # 11
         yield good[:-2] + END_BYTE             # 13
-    yield damaged(one, 7, 0x24)                # 14
-    yield sysex((REQUEST, PROGRAM, 0x23))
-    yield sysex((REQUEST, PROGRAM, 0x24))
-    yield sysex((REQUEST, EDIT))
+    yield changed(one, 7, 0x24)                # 14
+    yield request(PROGRAM, 0x23)
+    yield request(PROGRAM, 0x24)
+    yield request(EDIT)
 
 
 def moves():
@@ -61,14 +56,14 @@ def moves():
             # running status: one status byte for the three moves
             yield bytes((0xB0, controller, 0, controller, 64,
                          controller, 127))
-    yield sysex((REQUEST, EDIT))
+    yield request(EDIT)
 
 
 def others():
     """Yield the rest: other channels and kinds, identity, cuts, too long."""
     yield bytes((0xB1, 13, 1, 0xC0, 5, 0x90, 60, 1, 0xE0, 0, 64))
     for channel in (0, 1, 15, 0x7F):
-        yield bytes((0xF0, 0x7E, channel, 6, 1, 0xF7))
+        yield identity(channel)
     for status in (0x80, 0xB0, 0xC0, 0xF0, 0xF1, 0xF6):
         yield bytes((0xF0, 1, 2, status))
     # running status is lost at F6, and the data bytes are skipped

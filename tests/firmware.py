@@ -21,10 +21,11 @@ from struct import unpack, unpack_from
 from termios import FIONREAD
 from typing import NamedTuple
 
-from box import (ALL, DUMP, EDIT, EDIT_START, MEMORY_LENGTH, PROGRAM, REQUEST,
-                 Box)
+import messages
+from box import ALL, EDIT, EDIT_START, MEMORY_LENGTH, PROGRAM, Box
 from controllers import EDIT_LENGTH, split
-from listing import damaged, pattern, sysex
+from listing import pattern
+from messages import changed, request
 
 BOX, FAULTY, *RUNNER = sys.argv[1:]
 PATIENCE = 60  # seconds for a check, under an emulator too
@@ -36,23 +37,23 @@ IDENTIFIED = bytes.fromhex('F0 7E 7F 06 02 00 01 0C 00 00 00 01'
                            '30 31 30 30 F7')
 # a controller and an identity request for another channel
 OTHER_CHANNEL = bytes.fromhex('B1 0D 7F F0 7E 01 06 01 F7')
-ASK_ALL = sysex((REQUEST, ALL))
+ASK_ALL = request(ALL)
 SOME_MEMORY = pattern(MEMORY_LENGTH, 1)
 
 
 def ask(program):
     """Return the request for a program."""
-    return sysex((REQUEST, PROGRAM, program))
+    return request(PROGRAM, program)
 
 
 def dump(program, data):
     """Return the dump of a program."""
-    return sysex((DUMP, PROGRAM, program, 0), split(data))
+    return messages.dump(PROGRAM, split(data), program)
 
 
 def dump_all(data):
     """Return the dump of all programs."""
-    return sysex((DUMP, ALL, 0), split(data))
+    return messages.dump(ALL, split(data))
 
 
 ONE = pattern(EDIT_LENGTH, 3)
@@ -183,10 +184,10 @@ def check_bench_case(bench):
 
 def check_kept(bench):
     """What one run stored, the next one sends, on either socket."""
-    edit = sysex((DUMP, EDIT, 0), split(OTHER))
+    edit = messages.dump(EDIT, split(OTHER))
     assert bench.run(dump(0x23, ONE), edit) == well(b'', b'')
     assert bench.saved() == bytes(35 * EDIT_LENGTH) + ONE + OTHER
-    ask_edit = sysex((REQUEST, EDIT))
+    ask_edit = request(EDIT)
     assert bench.run(ask_edit, ask(0x23)) == well(edit, dump(0x23, ONE))
     assert bench.saved() == bytes(35 * EDIT_LENGTH) + ONE + OTHER
     assert not bench.new.exists()
@@ -196,8 +197,8 @@ def check_refused(bench):
     """Refused, cut and unfinished messages leave the file as it was."""
     bench.programs.write_bytes(SOME_MEMORY)
     good = dump_all(EVERY)
-    refused = (damaged(good, -2, 0x10), damaged(good, 7, 1),
-               good[:-2] + good[-1:], damaged(dump(0, ONE), 7, 0x24),
+    refused = (changed(good, -2, 0x10), changed(good, 7, 1),
+               good[:-2] + good[-1:], changed(dump(0, ONE), 7, 0x24),
                good[:-1] + b'\xF6', good[:-1], OTHER_CHANNEL)
     for message in refused:
         for streams in ((message, b''), (b'', message)):
@@ -207,12 +208,12 @@ def check_refused(bench):
 
 def busy(programs):
     """Return a stream that stores and asks for these programs."""
-    messages = []
+    sent = []
     for program in programs:
         good = dump(program, pattern(EDIT_LENGTH, program))
-        messages += (good, b'\xFE', ask(program), damaged(good, 9, 0x10),
-                     good[:100], IDENTITY, ask(program))
-    return b''.join(messages)
+        sent += (good, b'\xFE', ask(program), changed(good, 9, 0x10),
+                 good[:100], IDENTITY, ask(program))
+    return b''.join(sent)
 
 
 def check_apart(bench):

@@ -59,7 +59,7 @@ module _ (controller value : ℕ) (edit : List ℕ) where
       (λ _ _ _ e. let z : _≡_ {A = ℕ} 0 1 = cc in absurd (omega arith))
       (λ o h e. (o, h))
 
-  pub not-selected : programSize ≤ length edit → 1 ≤ rowOf controller .width → value ≤ rowOf controller .highest
+  not-selected : programSize ≤ length edit → 1 ≤ rowOf controller .width → value ≤ rowOf controller .highest
       → selected (rowOf controller .effect) (getD edit 46 0) ≡ false → applyOf controller value edit ≡ left (change.Refused 19) edit
   unfolding applyOf
   not-selected long some h s =

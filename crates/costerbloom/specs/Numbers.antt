@@ -12,11 +12,11 @@ use Rattle.framing.specs.declared.Receiver.{Receiver}
 use Rattle.sysex.specs.declared.Settings.{Settings}
 use Rattle.sysex.specs.declared.Answer.{Answer}
 use Rattle.sysex.specs.Memory.{memorySize, editPlace, partOf}
-use Rattle.sysex.specs.Carrying.{Left}
+use Rattle.sysex.specs.Carrying.{LeftBy, Left, left}
 use Rattle.sysex.specs.Numbers.{numberOf, lengthOf}
 use Rattle.podbox.specs.Settings.{size}
 use Rattle.podbox.specs.Whole.{wholeOf}
-use Rattle.podbox.specs.Take.{TookByte, takeOf}
+use Rattle.podbox.specs.Take.{TookBy, TookByte, took, takeOf}
 
 -- the settings, each a number of its own
 abbrev pub settingsOf : ℕ → ℕ → ℕ → ℕ → ℕ → ℕ → Settings
@@ -32,38 +32,18 @@ unfoldable pub said : Reading → ℕ
 said (reading.Value value) = value
 said (reading.Refused number) = 65536 + number
 
--- all that stands at exit of the byte call
-pub record TookNumbers : Type 0 where
-  pub receiver : Receiver
-  pub answer : ℕ
-  pub memory : List ℕ
-  pub receive : List ℕ
-  pub reply : List ℕ
-
-abbrev pub tookNumbers : Receiver → ℕ → List ℕ → List ℕ → List ℕ → TookNumbers
-tookNumbers receiver answer memory receive reply = record { receiver = receiver; answer = answer; memory = memory; receive = receive; reply = reply }
-
 -- what `takeOf` leaves, its answer as a number
-abbrev pub inNumbers : TookByte → TookNumbers
-inNumbers t = tookNumbers (t .receiver) (packed (t .answer)) (t .memory) (t .receive) (t .reply)
+abbrev pub inNumbers : TookByte → TookBy ℕ
+inNumbers t = took (t .receiver) (packed (t .answer)) (t .memory) (t .receive) (t .reply)
 
-unfoldable pub takeNumbers : Settings → ℕ → Receiver → ℕ → List ℕ → List ℕ → List ℕ → TookNumbers
+unfoldable pub takeNumbers : Settings → ℕ → Receiver → ℕ → List ℕ → List ℕ → List ℕ → TookBy ℕ
 takeNumbers settings socket receiver byte memory receive reply = inNumbers (takeOf settings socket receiver byte memory receive reply)
 
--- all that stands at exit of the panel's call
-pub record LeftNumbers : Type 0 where
-  pub answer : ℕ
-  pub memory : List ℕ
-  pub reply : List ℕ
-
-abbrev pub leftNumbers : ℕ → List ℕ → List ℕ → LeftNumbers
-leftNumbers answer memory reply = record { answer = answer; memory = memory; reply = reply }
-
 -- what `wholeOf` leaves, its answer as a number
-abbrev pub wholeInNumbers : Left → LeftNumbers
-wholeInNumbers l = leftNumbers (packed (l .answer)) (l .memory) (l .reply)
+abbrev pub wholeInNumbers : Left → LeftBy ℕ
+wholeInNumbers l = left (packed (l .answer)) (l .memory) (l .reply)
 
-unfoldable pub wholeNumbers : Settings → List ℕ → List ℕ → List ℕ → LeftNumbers
+unfoldable pub wholeNumbers : Settings → List ℕ → List ℕ → List ℕ → LeftBy ℕ
 wholeNumbers settings message memory reply = wholeInNumbers (wholeOf settings message memory reply)
 
 -- "Scaling may be asked directly: it returns the formula's number"

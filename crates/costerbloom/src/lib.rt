@@ -2,7 +2,9 @@
 mod numbers;
 
 ghost use mathlib.Core.Path.{_≡_};
-ghost use Rattle.costerbloom.specs.Numbers.{settingsOf, tookNumbers, takeNumbers, leftNumbers, wholeNumbers, scaleNumber, memoryBack, backNumber};
+ghost use Rattle.sysex.specs.Carrying.{left};
+ghost use Rattle.podbox.specs.Take.{took};
+ghost use Rattle.costerbloom.specs.Numbers.{settingsOf, takeNumbers, wholeNumbers, scaleNumber, memoryBack, backNumber};
 use controls::Reading;
 use framing::Receiver;
 
@@ -28,7 +30,7 @@ pub extern "C" fn costerbloom_take(
     receive: &mut [u8],
     reply: &mut [u8],
 ) -> u64
-    ensures { λ r. ⌜ tookNumbers (now (receiver .exit)) r (now (memory .exit)) (now (receive .exit)) (now (reply .exit)) ≡ takeNumbers (settingsOf channel omni revision0 revision1 revision2 revision3) socket (now (receiver .entry)) byte (now (memory .entry)) (now (receive .entry)) (now (reply .entry)) ⌝ }
+    ensures { λ r. ⌜ took (now (receiver .exit)) r (now (memory .exit)) (now (receive .exit)) (now (reply .exit)) ≡ takeNumbers (settingsOf channel omni revision0 revision1 revision2 revision3) socket (now (receiver .entry)) byte (now (memory .entry)) (now (receive .entry)) (now (reply .entry)) ⌝ }
 {
     let handed = take(
         *receiver,
@@ -62,7 +64,7 @@ fn take(
     receive: &mut [u8],
     reply: &mut [u8],
 ) -> Handed
-    ensures { λ r. ⌜ tookNumbers (r .receiver) (r .answer) (now (memory .exit)) (now (receive .exit)) (now (reply .exit)) ≡ takeNumbers (settingsOf channel omni revision0 revision1 revision2 revision3) socket receiver byte (now (memory .entry)) (now (receive .entry)) (now (reply .entry)) ⌝ }
+    ensures { λ r. ⌜ took (r .receiver) (r .answer) (now (memory .exit)) (now (receive .exit)) (now (reply .exit)) ≡ takeNumbers (settingsOf channel omni revision0 revision1 revision2 revision3) socket receiver byte (now (memory .entry)) (now (receive .entry)) (now (reply .entry)) ⌝ }
 {
     let settings = numbers::settings(channel, omni, revision0, revision1, revision2, revision3);
     let took = podbox::take_byte(receiver, socket, byte, settings, memory, receive, reply);
@@ -87,7 +89,7 @@ pub extern "C" fn costerbloom_whole(
     memory: &mut [u8],
     reply: &mut [u8],
 ) -> u64
-    ensures { λ r. ⌜ leftNumbers r (now (memory .exit)) (now (reply .exit)) ≡ wholeNumbers (settingsOf channel omni revision0 revision1 revision2 revision3) (now (message .entry)) (now (memory .entry)) (now (reply .entry)) ⌝ }
+    ensures { λ r. ⌜ left r (now (memory .exit)) (now (reply .exit)) ≡ wholeNumbers (settingsOf channel omni revision0 revision1 revision2 revision3) (now (message .entry)) (now (memory .entry)) (now (reply .entry)) ⌝ }
 {
     let settings = numbers::settings(channel, omni, revision0, revision1, revision2, revision3);
     let answer = podbox::whole_message(message, settings, memory, reply);

@@ -67,11 +67,11 @@ length-join (high ∷ []) = refl
 length-join (high ∷ low ∷ xs) = omega (arith, length-join xs)
 
 -- What a caller may count on: all is moved where the lengths fit, and the half bytes are half bytes.
-pub split-done : (bytes halves : List ℕ) → length halves ≡ 2 * length bytes → splitInto bytes halves ≡ left Done (split bytes)
+split-done : (bytes halves : List ℕ) → length halves ≡ 2 * length bytes → splitInto bytes halves ≡ left Done (split bytes)
 unfolding splitInto
 split-done bytes halves e = rw (eq-eqb (length halves) (2 * length bytes) e)
 
-pub join-done : (halves bytes : List ℕ) → length halves ≡ 2 * length bytes → allHalves halves ≡ true → joinInto halves bytes ≡ left Done (join halves)
+join-done : (halves bytes : List ℕ) → length halves ≡ 2 * length bytes → allHalves halves ≡ true → joinInto halves bytes ≡ left Done (join halves)
 unfolding joinInto
 join-done halves bytes e h = rw (eq-eqb (length halves) (2 * length bytes) e, h)
 

@@ -23,15 +23,18 @@ use Rattle.sysex.specs.Carrying.{Outcome, outcome}
 use Rattle.podbox.specs.Settings.{size, isValid}
 use Rattle.podbox.specs.Messages.{carry}
 
--- all that stands at exit of a byte call
-pub record TookByte : Type 0 where
+-- all that stands at exit of a byte call, its answer an enum here and a number across C
+pub record TookBy (Code : Type 0) : Type 0 where
   pub receiver : Receiver
-  pub answer : Answer
+  pub answer : Code
   pub memory : List ℕ
   pub receive : List ℕ
   pub reply : List ℕ
 
-abbrev pub took : Receiver → Answer → List ℕ → List ℕ → List ℕ → TookByte
+abbrev pub TookByte : Type 0
+TookByte = TookBy Answer
+
+abbrev pub took : {Code : Type 0} → Receiver → Code → List ℕ → List ℕ → List ℕ → TookBy Code
 took receiver answer memory receive reply = record { receiver = receiver; answer = answer; memory = memory; receive = receive; reply = reply }
 
 -- "At most 5,192 are stored, so 5,193 with F7 is the longest message."

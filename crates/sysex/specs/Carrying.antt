@@ -53,13 +53,16 @@ orderDoes size settings (order.Refused number) body memory = refused number memo
 abbrev pub bodyDoes : ℕ → Settings → List ℕ → List ℕ → Outcome
 bodyDoes size settings body memory = orderDoes size settings (judgeOf size settings body) body memory
 
--- all that stands at exit
-pub record Left : Type 0 where
-  pub answer : Answer
+-- all that stands at exit, the answer an enum here and a number across C
+pub record LeftBy (Code : Type 0) : Type 0 where
+  pub answer : Code
   pub memory : List ℕ
   pub reply : List ℕ
 
-abbrev pub left : Answer → List ℕ → List ℕ → Left
+abbrev pub Left : Type 0
+Left = LeftBy Answer
+
+abbrev pub left : {Code : Type 0} → Code → List ℕ → List ℕ → LeftBy Code
 left answer memory reply = record { answer = answer; memory = memory; reply = reply }
 
 abbrev pub leaves : Outcome → List ℕ → Left
