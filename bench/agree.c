@@ -1,4 +1,5 @@
-/* Whether the plain side is the same box: random calls to both, compared in every bit that is left. */
+/* Whether the plain side is the same box: every value scaled and shown back, then random calls to both, compared in
+ * every bit that is left. */
 #include "side.h"
 
 typedef struct {
@@ -47,6 +48,43 @@ static int whole_same(box *a, box *b, const uint8_t *message, size_t length, con
     return costerbloom_whole(message, length, g->channel, g->omni, 1, 2, 3, g->revision3, a->memory, g->memory,
                a->reply, g->reply) == plain_whole(message, length, g->channel, g->omni, 1, 2, 3, g->revision3,
                                           b->memory, g->memory, b->reply, g->reply);
+}
+
+static int scales_same(void)
+{
+    for (uint32_t controller = 0; controller < 140; controller++)
+        for (uint32_t value = 0; value < 140; value++)
+            if (costerbloom_scale(controller, value) != plain_scale(controller, value))
+                return 0;
+    return 1;
+}
+
+static int shows_same(const uint8_t *memory)
+{
+    for (uint32_t controller = 42; controller < 60; controller++)
+        if (costerbloom_back(memory, COSTERBLOOM_MEMORY, controller) !=
+            plain_back(memory, COSTERBLOOM_MEMORY, controller))
+            return 0;
+    return 1;
+}
+
+/* Each effect's fields at every number up to the highest that a formula gives. A field of two bytes begins at an even
+ * place or at an odd one; each number stands at both, one after the other. */
+static int fields_same(void)
+{
+    enum { HIGHEST = 6350, EDIT = COSTERBLOOM_MEMORY - 72 };
+    static const uint8_t SELECTING[] = {14, 7, 0, 2, 5};
+    static uint8_t memory[COSTERBLOOM_MEMORY];
+    for (size_t effect = 0; effect < sizeof SELECTING; effect++) {
+        memory[EDIT + 46] = SELECTING[effect];
+        for (uint32_t turn = 0; turn <= 2 * HIGHEST + 1; turn++) {
+            for (uint32_t place = 48; place <= 54; place++)
+                memory[EDIT + place] = (uint8_t)(place % 2 == turn % 2 ? turn / 2 : turn / 2 / 256);
+            if (!shows_same(memory))
+                return 0;
+        }
+    }
+    return 1;
 }
 
 static int panel_same(const box *a, const box *b, uint64_t *seed)
@@ -130,6 +168,8 @@ uint32_t agree(box *library, box *plain, uint32_t calls)
     static uint8_t message[COSTERBLOOM_LONGEST + 8];
     uint64_t seed = 0x9E3779B97F4A7C15;
     uint32_t count = 0;
+    if (!scales_same() || !fields_same())
+        return 0;
     while (count < calls) {
         size_t length = any_message(message, &seed);
         given g = any_given(&seed);

@@ -1,6 +1,6 @@
 /* What makes it fast: half bytes are tested by one OR over all of them and joined in loops that the compiler turns
- * into vector code, every formula is one multiplication and one shift, and a byte's tests stand in the order in which
- * a running box meets them. Nothing is skipped: 30, 31 and 32 are tested at every call. */
+ * into vector code, every formula is one multiplication, one shift and the greater of two numbers, and a byte's tests
+ * stand in the order in which a running box meets them. Nothing is skipped: 30, 31 and 32 are tested at every call. */
 #include "plain.h"
 
 enum {
@@ -80,30 +80,31 @@ static inline void split(uint8_t *restrict halves, const uint8_t *restrict bytes
 
 /* ---- controllers */
 
-/* The number for v is (v x factor + addend) / 65536, exact for v up to 127. Effects are bits, and bit 0 is always
- * selected. The upper and lower seven bits of m, which need the stored number, are told by a factor of 0. */
+/* The number for v is (v x factor + addend) / 65536, exact for v up to 127, and raised to at least `least` (Req 01);
+ * where that is not 0 the formula rises from 0. Effects are bits, and bit 0 is always selected. The upper and lower
+ * seven bits of m, which need the stored number, are told by a factor of 0. */
 typedef struct {
     int factor, addend;
-    uint8_t place, width, highest, effects;
+    uint8_t place, width, highest, effects, least;
 } row;
 
 enum { ALWAYS = 1, SWELL = 2, COMPRESSOR = 4, CHORUS = 8, ROTARY = 16, TREMOLO = 32, UPPER = 30, LOWER = 62 };
 
 #define V_64(b)                                                                                                        \
     {                                                                                                                  \
-        1024, 0, b, 1, 127, ALWAYS                                                                                     \
+        1024, 0, b, 1, 127, ALWAYS, 0                                                                                  \
     }
 #define V_2(b)                                                                                                         \
     {                                                                                                                  \
-        32768, 0, b, 1, 127, ALWAYS                                                                                    \
+        32768, 0, b, 1, 127, ALWAYS, 0                                                                                 \
     }
 #define V(b, top)                                                                                                      \
     {                                                                                                                  \
-        65536, 0, b, 1, top, ALWAYS                                                                                    \
+        65536, 0, b, 1, top, ALWAYS, 0                                                                                 \
     }
 #define M                                                                                                              \
     {                                                                                                                  \
-        0, 0, 26, 3, 127, ALWAYS                                                                                       \
+        0, 0, 26, 3, 127, ALWAYS, 0                                                                                    \
     }
 
 static const row ROWS[128] = {
@@ -142,20 +143,20 @@ static const row ROWS[128] = {
     [12] = V(8, 27),
     [71] = V(44, 15),
     [19] = V(46, 15),
-    [23] = {-194 * 256, 127 * 194 * 256, 16, 1, 127, ALWAYS},
+    [23] = {-194 * 256, 127 * 194 * 256, 16, 1, 127, ALWAYS, 0},
     [UPPER] = M,
     [LOWER] = M,
-    [49] = {32768, 0, 48, 1, 127, SWELL},
-    [42] = {2979, 0, 48, 1, 127, COMPRESSOR},
-    [51] = {50 * 65536, 0, 48, 2, 127, CHORUS},
-    [52] = {161320, 0, 50, 2, 127, CHORUS},
-    [53] = {65536, 0, 52, 1, 127, CHORUS},
-    [54] = {399458, 0, 53, 2, 127, CHORUS},
-    [55] = {1024, 0, 48, 1, 127, ROTARY},
-    [56] = {22 * 65536, 100 * 65536, 49, 2, 127, ROTARY},
-    [57] = {22 * 65536, 100 * 65536, 51, 2, 127, ROTARY},
-    [58] = {25 * 65536, 0, 48, 2, 127, TREMOLO},
-    [59] = {65536, 0, 50, 1, 127, TREMOLO},
+    [49] = {32768, 0, 48, 1, 127, SWELL, 0},
+    [42] = {2979, 0, 48, 1, 127, COMPRESSOR, 0},
+    [51] = {50 * 65536, 0, 48, 2, 127, CHORUS, 200},
+    [52] = {161320, 0, 50, 2, 127, CHORUS, 0},
+    [53] = {65536, 0, 52, 1, 127, CHORUS, 0},
+    [54] = {399458, 0, 53, 2, 127, CHORUS, 1},
+    [55] = {1024, 0, 48, 1, 127, ROTARY, 0},
+    [56] = {22 * 65536, 100 * 65536, 49, 2, 127, ROTARY, 0},
+    [57] = {22 * 65536, 100 * 65536, 51, 2, 127, ROTARY, 0},
+    [58] = {25 * 65536, 0, 48, 2, 127, TREMOLO, 150},
+    [59] = {65536, 0, 50, 1, 127, TREMOLO, 0},
 };
 
 /* What each value of byte 46 selects. */
@@ -169,7 +170,8 @@ static inline int is_selected(const row *r, const uint8_t *edit)
 
 static inline uint32_t number_of(const row *r, uint32_t value)
 {
-    return (uint32_t)((int)value * r->factor + r->addend) >> 16;
+    uint32_t number = (uint32_t)((int)value * r->factor + r->addend) >> 16;
+    return number > r->least ? number : r->least;
 }
 
 static inline uint32_t load(const uint8_t *bytes, uint32_t width)
@@ -235,8 +237,8 @@ static inline uint32_t back_m(uint32_t controller, uint32_t stored)
     return controller == UPPER ? m >> 7 : m & 0x7F;
 }
 
-/* The smallest value whose formula has come up to the stored number, or down to it where the formula falls: no smaller
- * one gives it, so this one does or none does. */
+/* The smallest value whose number has come up to the stored one, or down to it where the formula falls: no smaller one
+ * gives it, so this one does or none does. One that rises has come up to the least number at 0. */
 static inline uint32_t back_row(const row *r, uint32_t stored)
 {
     long long way = ((long long)stored << 16) - r->addend, step = r->factor;
@@ -244,7 +246,7 @@ static inline uint32_t back_row(const row *r, uint32_t stored)
         way = -way - 65535;
         step = -step;
     }
-    long long value = way <= 0 ? 0 : (way + step - 1) / step;
+    long long value = way <= (long long)r->least << 16 ? 0 : (way + step - 1) / step;
     if (value > r->highest || number_of(r, (uint32_t)value) != stored)
         return REFUSAL + NO_VALUE;
     return (uint32_t)value;

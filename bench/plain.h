@@ -1,4 +1,4 @@
-/* The box of document 01 in plain C, written for speed: the rival that bench/ measures the library against.
+/* The box of document 01 with Req 01 in plain C, written for speed: the rival that bench/ measures the library against.
  * The same four functions, the same promise, as include/costerbloom.h says it. */
 #ifndef PLAIN_H
 #define PLAIN_H

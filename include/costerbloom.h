@@ -57,12 +57,14 @@ uint64_t costerbloom_whole(const uint8_t *message, size_t message_length,
     uint8_t channel, uint8_t omni, uint8_t revision0, uint8_t revision1, uint8_t revision2, uint8_t revision3,
     uint8_t *memory, size_t memory_length, uint8_t *reply, size_t reply_length);
 
-/* What a controller's formula gives for a value, whatever memory holds: the number, below 65536, or 65536 + the refusal,
- * 17 or 18 as above. Controllers 30 and 62 need a stored number and are 17 here. */
+/* The number that a controller stores for a value, whatever memory holds: the formula's, raised for 51 to at least 200,
+ * for 58 to at least 150 and for 54 to at least 1. Below 65536, or 65536 + the refusal, 17 or 18 as above. Controllers
+ * 30 and 62 need a stored number and are 17 here. */
 uint32_t costerbloom_scale(uint32_t controller, uint32_t value);
 
 /* The smallest value of a controller that gives what its bytes of the edit buffer hold: the value, at most 127, or
- * 65536 + the refusal, 30, 17 or 19 as above, or 40 where no value gives it. `memory` is all of it, as for the others. */
+ * 65536 + the refusal, 30, 17 or 19 as above, or 40 where no value gives it, as below the least numbers above. `memory`
+ * is all of it, as for the others. */
 uint32_t costerbloom_back(const uint8_t *memory, size_t memory_length, uint32_t controller);
 
 #ifdef __cplusplus

@@ -1,4 +1,4 @@
-"""The whole box of document 01, written from its text alone."""
+"""The whole box of document 01 with Req 01, from their text alone."""
 
 from typing import NamedTuple, Optional
 

@@ -5,7 +5,7 @@ from random import Random
 
 from box import EDIT, LEAST, PROGRAM, REPLY
 from chance import add_random
-from controllers import TABLE
+from controllers import AT_LEAST, TABLE
 from judging import add_identities, add_kinds, add_orders
 from lent import (FULL, NO_CONTROLLERS, SOUND, UNSOUND, add_back,
                   add_back_order, add_beyond, add_lengths, add_long_buffers,
@@ -16,7 +16,7 @@ from player import ROOMS
 from script import Script
 from sockets import (add_apart, add_channels, add_controllers, add_cuts,
                      add_mixed, add_numbers, add_panel, add_pieces,
-                     add_real_time, add_running, add_shared)
+                     add_raised, add_real_time, add_running, add_shared)
 
 
 def add_opening(script):
@@ -63,8 +63,10 @@ def add_lent(script):
         add_lengths(script, buffer, (least - 1, ROOMS[buffer]))
     add_long_buffers(script, request(EDIT))
     add_turned_away(script)
-    add_scaling(script, (*TABLE, *NO_CONTROLLERS), (64, 127, 128, 1 << 24))
-    for controller in (25, 13, 4, 12, 23, 30, 62, 49, 52, 56):
+    add_scaling(script, (*TABLE, *NO_CONTROLLERS),
+                (0, 64, 127, 128, 1 << 24))
+    add_scaling(script, AT_LEAST, range(1, 8))
+    for controller in (25, 13, 4, 12, 23, 30, 62, 49, 52, 56, *AT_LEAST):
         add_back(script, controller)
     add_back_order(script)
 
@@ -76,6 +78,7 @@ def add_bytes(script):
     add_cuts(script, 0, (0x80, 0xBF, 0xC5, 0xEF, *range(0xF0, 0xF8)))
     add_channels(script, 1, ((5, 0), (3, 1)))
     add_shared(script, 0, (127,))
+    add_raised(script, 1)
     add_controllers(script, 1, (16,))
     add_numbers(script, 0)
     add_mixed(script)

@@ -1,4 +1,7 @@
-"""Check controllers.py and box.py against the bench cases of document 01."""
+"""Check controllers.py and box.py against the bench cases of document 01.
+
+Cases of Req 01, of document 02, stand beside them.
+"""
 
 from box import Box, Receiver
 from controllers import TABLE, apply, back, join, read, scale, split, store
@@ -39,6 +42,14 @@ def check_scaling():
         (51, 127, 6350), (52, 127, 312), (54, 127, 774),
         (56, 0, 100), (56, 127, 2894),
         (12, 27, 27),
+        # Req 01: "51 is raised to at least 200, 58 to at least 150 and 54 to
+        # at least 1"
+        (51, 0, 200), (51, 3, 200), (51, 4, 200), (51, 5, 250),
+        (58, 0, 150), (58, 5, 150), (58, 6, 150), (58, 7, 175),
+        (54, 0, 1), (54, 1, 6),
+        # their neighbours are not
+        (50, 0, 0), (52, 0, 0), (53, 0, 0), (55, 0, 0), (57, 0, 100),
+        (59, 0, 0),
     )
     for controller, value, number in cases:
         expect(f'{controller} at {value}', scale(controller, value),
@@ -62,6 +73,15 @@ def check_applying():
         (56, 127, 2, 3, {49: 0x4E, 50: 0x0B}),
         (12, 27, 0, 3, {8: 27}),
         (12, 28, 0, 18, {}),
+        # Req 01: the raised number is stored
+        (51, 0, 0, 3, {48: 200, 49: 0}),
+        (51, 4, 0, 3, {48: 200, 49: 0}),
+        (51, 5, 0, 3, {48: 250, 49: 0}),
+        (58, 0, 5, 3, {48: 150, 49: 0}),
+        (58, 6, 9, 3, {48: 150, 49: 0}),
+        (58, 7, 9, 3, {48: 175, 49: 0}),
+        (54, 0, 15, 3, {53: 1, 54: 0}),
+        (54, 1, 15, 3, {53: 6, 54: 0}),
         (55, 127, 1, 19, {}),
         (55, 128, 1, 18, {}),
         (0, 128, 1, 17, {}),
@@ -109,6 +129,25 @@ def check_back():
         (25, {0: 2}, ('refused', 40)),
         (52, {50: 1}, ('refused', 40)),
         (52, {50: 2}, ('value', 1)),
+        # Req 01: "Showing a value back still takes the smallest"
+        (51, {48: 200}, ('value', 0)),
+        (51, {48: 250}, ('value', 5)),
+        (58, {46: 5, 48: 150}, ('value', 0)),
+        (58, {46: 5, 48: 175}, ('value', 7)),
+        (54, {53: 1}, ('value', 0)),
+        (54, {53: 6}, ('value', 1)),
+        # "a stored 0 in these three fields now gives 40", and so does all
+        # else below the least, and just above it
+        *((51, {48: number}, ('refused', 40))
+          for number in (0, 1, 50, 100, 150, 199, 201)),
+        *((58, {46: 5, 48: number}, ('refused', 40))
+          for number in (0, 1, 25, 125, 149, 151)),
+        (54, {53: 0}, ('refused', 40)),
+        (54, {53: 2}, ('refused', 40)),
+        # their neighbours still show it
+        *((controller, {}, ('value', 0)) for controller in (50, 52, 53)),
+        (55, {46: 2}, ('value', 0)),
+        (59, {46: 5}, ('value', 0)),
         # "within the controller's range"
         (12, {8: 27}, ('value', 27)),
         (12, {8: 28}, ('refused', 40)),
@@ -146,6 +185,10 @@ def check_calls():
         ('B0 13 01 37 7F', 19, {46: 1}),
         # byte 46 at 2 selects it
         ('B0 13 02 37 7F', 3, {46: 2, 48: 1}),
+        # Req 01: "At chorus speed 0 the unit got a period of 0"
+        ('B0 33 00', 3, {48: 200}),
+        ('B0 13 05 3A 00', 3, {46: 5, 48: 150}),
+        ('B0 36 00', 3, {53: 1}),
     )
     for data, number, changes in cases:
         for socket in (0, 1):

@@ -1,7 +1,7 @@
 """Scripts at random: fragments of bytes on both sockets, turns between."""
 
 from box import ALL, EDIT, LEAST, MEMORY_LENGTH, PROGRAM, START
-from controllers import TABLE
+from controllers import AT_LEAST, TABLE
 from judging import WRONG_SETTINGS
 from lent import (NO_CONTROLLERS, NO_SOCKETS, SOUND, UNSOUND, VALUES, fill,
                   numbers_for, select)
@@ -10,16 +10,21 @@ from messages import (HALVES, changed, dump, edit_with, identity, noise,
 from player import MEMORY_ROOM, PARTS, ROOMS
 
 REAL_TIME = range(0xF8, 0x100)  # "F8 to FF"
-BORDERS = (0, 1, 15, 16, 27, 28, 63, 64, 126, 127)  # of values
+BORDERS = (*range(8), 15, 16, 27, 28, 63, 64, 126, 127)  # of values
 
 
 # Fragments: bytes that one socket sends in a row
 
 
+def some_value(chance):
+    """Return a controller's value, most often one at a border."""
+    return chance.choice((*BORDERS, chance.randrange(128)))
+
+
 def move(chance):
     """Return a controller message, most often one in the table."""
     return bytes((0xB0, chance.choice((*TABLE, 0, 6, 127)),
-                  chance.choice((*BORDERS, chance.randrange(128)))))
+                  some_value(chance)))
 
 
 def running(chance):
@@ -30,7 +35,7 @@ def running(chance):
 def selecting(chance):
     """Return byte 46 set, then a shared controller."""
     return bytes((0xB0, 19, chance.randrange(17), chance.randrange(49, 60),
-                  chance.randrange(128)))
+                  some_value(chance)))
 
 
 def asking(chance):
@@ -245,6 +250,17 @@ def turn_field(script, chance):
     script.back(controller)
 
 
+def turn_raised(script, chance):
+    """Scale and show back around the numbers to which Req 01 raises."""
+    controller, least = chance.choice(tuple(AT_LEAST.items()))
+    rule = TABLE[controller]
+    select(script, chance.choice(rule.chosen_by))
+    fill(script, rule.field, chance.choice((
+        0, least - 1, least, least + 1, 25 * chance.randrange(12))))
+    script.back(controller)
+    script.scale(*chance.choices(range(8), k=2))
+
+
 def turn_poke(script, chance):
     """Set a byte of memory, beyond what must be lent too."""
     script.poke(chance.choice((chance.randrange(MEMORY_LENGTH),
@@ -258,7 +274,7 @@ TURNS = {
     turn_unsound: 4, turn_receiver: 3, turn_stale: 2, turn_socket: 2,
     turn_message: 5, turn_long_message: 1, turn_length: 1, turn_byte: 3,
     turn_whole: 4, turn_feed: 6, turn_scale: 4, turn_back: 3, turn_field: 6,
-    turn_poke: 3,
+    turn_raised: 4, turn_poke: 3,
 }
 
 

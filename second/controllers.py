@@ -1,4 +1,7 @@
-"""Half bytes and controllers of document 01, written from its text alone."""
+"""Half bytes and controllers, written from the text of the documents alone.
+
+The page is document 01. Req 01, of document 02, changes one rule of it.
+"""
 
 from typing import Callable, NamedTuple, Optional
 
@@ -56,15 +59,26 @@ SHARED = (
         ('59>50', lambda v: v))),
 )
 
+# Req 01: "After the formula, 51 is raised to at least 200, 58 to at least 150
+# and 54 to at least 1."
+AT_LEAST = {51: 200, 58: 150, 54: 1}
+
 
 class Rule(NamedTuple):
-    """What the page says of one controller."""
+    """What the page and Req 01 say of one controller."""
 
     field: tuple                 # its bytes, "lowest first"
-    formula: Optional[Callable]  # None for 30 and 62
+    formula: Optional[Callable]  # raised if in AT_LEAST; None for 30 and 62
     top: int                     # highest value taken
     chosen_by: Optional[tuple]   # values of byte 46; None: not shared
     shown: dict                  # stored number to the value shown
+
+
+def raise_formula(controller, formula):
+    """Return the formula, "raised to at least" a number where Req 01 does."""
+    if controller not in AT_LEAST:
+        return formula
+    return lambda v: max(formula(v), AT_LEAST[controller])
 
 
 def invert(formula, top):
@@ -73,6 +87,7 @@ def invert(formula, top):
         return {}
     # "the smallest value within the controller's range whose formula gives
     # the stored number": going down, a smaller value replaces a larger one.
+    # Req 01: "Showing a value back still takes the smallest"
     return {formula(value): value for value in range(top, -1, -1)}
 
 
@@ -81,8 +96,9 @@ def read_pairs(pairs, formula, top, chosen_by):
     for pair in pairs.split():
         controller, places = pair.split('>')
         field = tuple(int(place) for place in places.split(','))
-        yield int(controller), Rule(field, formula, top, chosen_by,
-                                    invert(formula, top))
+        raised = raise_formula(int(controller), formula)
+        yield int(controller), Rule(field, raised, top, chosen_by,
+                                    invert(raised, top))
 
 
 def read_page():
@@ -186,7 +202,7 @@ def apply(controller: int, value: int, edit: bytearray) -> int:
     if rule.formula is None:
         number = replace_part(controller, value, load(rule.field, edit))
     else:
-        # "The formula's number is stored as it comes"
+        # "The formula's number is stored as it comes", but for Req 01
         number = rule.formula(value)
     store(rule.field, number, edit)
     return APPLIED
@@ -207,7 +223,8 @@ def back(controller: int, edit: bytes) -> tuple:
         value = show_part(controller, stored)
     else:
         value = rule.shown.get(stored)
-    # "refused with 40 exactly if none exists"
+    # "refused with 40 exactly if none exists"; Req 01: "a stored 0 in these
+    # three fields now gives 40"
     if value is None:
         return 'refused', NO_VALUE
     return 'value', value

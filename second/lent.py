@@ -56,7 +56,7 @@ NO_SOCKETS = (2, 3, 0xFF, 1 << 24, (1 << 24) + 1, 0x80000000, 0xFF0000FF)
 NO_CONTROLLERS = (0, 6, 120, 127, 128, 256 + 13, 65536 + 13,
                   (13 << 16) + 13, 0x8000000D, 0xFFFFFFFF)
 # Values that would be in range if they were cut, and their borders.
-VALUES = (0, 1, 15, 16, 21, 22, 27, 28, 63, 64, 126, 127, 128, 255, 256,
+VALUES = (*range(8), 15, 16, 21, 22, 27, 28, 63, 64, 126, 127, 128, 255, 256,
           65535, 1 << 24, (1 << 24) + 5, (255 << 24) + 127)
 
 
@@ -236,7 +236,10 @@ def numbers_for(rule):
         return 0, 1, 6, 762, 768, 49158, 98298, 98299, 98304, 0xFFFFFF
     given = {rule.formula(value) for value in (0, 1, 64, rule.top)}
     more = {number + 1 for number in given} | {256 ** len(rule.field) - 1}
-    return sorted(given | more)
+    # below all that are given: Req 01 raises, 56 and 57 add 100
+    low = min(given)
+    below = {*range(0, low, 25), max(low - 1, 0)}
+    return sorted(given | more | below)
 
 
 def add_back(script, controller):

@@ -4,7 +4,7 @@ from functools import partial
 from itertools import chain, zip_longest
 
 from box import ALL, EDIT, END_BYTE, LONGEST, PROGRAM, START
-from controllers import TABLE
+from controllers import AT_LEAST, TABLE
 from judging import add_forms, show
 from messages import (ALL_HALVES, HALVES, PAD, changed, dump, dumps,
                       edit_with, forms, identity, inserted, noise, request,
@@ -149,6 +149,19 @@ def add_shared(script, socket, values):
         script.send(socket, request(EDIT))
 
 
+def add_raised(script, socket):
+    """Fields that a dump makes 0, then the moves that Req 01 raises."""
+    for controller in AT_LEAST:
+        rule = TABLE[controller]
+        # "Field ranges are not tested when a dump is stored."
+        script.feed(socket, edit_with({46: rule.chosen_by[0],
+                                       **dict.fromkeys(rule.field, 0)}))
+        script.send(socket, request(EDIT))
+        pairs = ((controller, value) for value in range(8))
+        script.feed(socket, bytes((0xB0, *chain.from_iterable(pairs))))
+        script.send(socket, request(EDIT))
+
+
 def add_numbers(script, socket):
     """30 and 62 over stored numbers, above the cap too."""
     for stored in ('00 00 00', '07 00 00', '06 C0 00', 'FA 7F 01',
@@ -246,6 +259,7 @@ def make_sockets():
         add_cuts(script, socket, range(0x80, 0xF8))
         add_channels(script, socket, ((0, 0), (5, 0), (3, 1), (15, 0)))
         add_shared(script, socket, (0, 21, 64, 127))
+        add_raised(script, socket)
     add_cut_dumps(script, 0)
     add_too_long(script, 1)
     add_controllers(script, 0, (0, 1, 15, 16, 27, 28, 63, 64, 127))

@@ -1,4 +1,4 @@
-"""Print what the test program sweep should print, from document 01.
+"""Print what the test program sweep should print, by document 01 and Req 01.
 
 A line for each controller from 0 to 128 (one above the last): how many values
 were scaled, applied and shown, each with a digest of every answer. The last

@@ -1,2 +1,4 @@
+pub mod Case
 pub mod Marked
+pub mod Raised
 pub mod ShutOut

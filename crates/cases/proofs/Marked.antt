@@ -1,13 +1,12 @@
 -- "The cases marked * below are one table, with a single statement that the definitions give them."
 use Prim.Native.Nat.{ℕ}
-use mathlib.Core.List.{List, [], _∷_, map}
-use mathlib.Core.Path.{_≡_, refl}
-use lib.ListN.{replicate, take, drop, set}
+use mathlib.Core.List.{List, [], _∷_}
+use mathlib.Core.Path.{refl}
+use lib.ListN.{replicate}
 use Rattle.halves.specs.HalfBytes.{split}
 use Rattle.halves.specs.Moving.{numberOf, joinInto}
-use Rattle.controls.specs.Formulas.{numberBy, mOf, nextBy}
-use Rattle.controls.specs.Table.{programSize, rows, rowOf, selections, effectOf, selected}
-use Rattle.controls.specs.Answers.{refusalOf, valueOf}
+use Rattle.controls.specs.Formulas.{numberBy, numberFor, mOf, nextFor}
+use Rattle.controls.specs.Table.{rows, rowOf, selections, effectOf, selected}
 use Rattle.controls.specs.Scaling.{scaleOf}
 use Rattle.controls.specs.Applying.{store, applyOf}
 use Rattle.controls.specs.Showing.{shownOf, backOf}
@@ -25,39 +24,14 @@ use Rattle.podbox.specs.Messages.{isHeard, isController, carry}
 use Rattle.podbox.specs.Whole.{isFramed, wholeOf}
 use Rattle.podbox.specs.Take.{stepDoes, readyDoes, takeOf}
 use Rattle.podbox.proofs.WholeMessages.{dumpMessage, requestMessage}
+use Rattle.cases.proofs.Case.{Case, _is_, Given, scaled, shown, with, after, bytes}
 
--- what the definitions give, and what the paper says
-pub record Case : Type 0 where
-  pub gives : List ℕ
-  pub paper : List ℕ
-
-_is_ : List ℕ → List ℕ → Case
-gives is paper = record { gives = gives; paper = paper }
-
-infix 90 _is_
 travels : ℕ → List ℕ
 travels byte = split (byte ∷ [])
 
 -- half bytes read into one byte that was 0: the refusal number, and the byte
 reads : List ℕ → List ℕ
 reads halves = let l = joinInto halves (0 ∷ []) in numberOf (l .answer) ∷ l .buffer
-
--- scaling and showing back: the refusal number, and the value
-scaled : ℕ → ℕ → List ℕ
-scaled controller value = let r = scaleOf controller value in refusalOf r ∷ valueOf r ∷ []
-
-shown : ℕ → List ℕ → List ℕ
-shown controller edit = let r = backOf controller edit in refusalOf r ∷ valueOf r ∷ []
-
--- an edit buffer of zeros but for one byte, and after one controller
-with : ℕ → ℕ → List ℕ
-with place byte = set (replicate programSize 0) place byte
-
-after : ℕ → ℕ → List ℕ → List ℕ
-after controller value edit = applyOf controller value edit .edit
-
-bytes : ℕ → ℕ → List ℕ → List ℕ
-bytes place count edit = take count (drop place edit)
 
 -- a fresh box, set as the listing program's: the number of each byte of a run on socket 0, and of a message that is handed over whole
 unfoldable pub settings : Settings
@@ -125,6 +99,6 @@ marked =
     handed (dumpMessage (One 0x24) (zeros 72)) is (14 ∷ []) ∷
     []
 
-pub as-the-paper-says : map (λ (c : Case). c .gives) marked ≡ map (λ (c : Case). c .paper) marked
-unfolding marked _is_ travels reads scaled shown with after bytes joinInto scaleOf applyOf store backOf shownOf numberBy mOf nextBy rowOf rows effectOf selections selected settings zeros run called handed soundOf isWritten countRight runningRight waitingRight longIsFull takesOne takesTwo stepOf bodyLength isIdentity hasProgram testsOf orderOf judgeOf orderDoes isValid isHeard isController carry isFramed wholeOf stepDoes readyDoes takeOf
+pub as-the-paper-says : Given marked
+unfolding marked travels reads joinInto scaleOf applyOf store backOf shownOf numberBy numberFor mOf nextFor rowOf rows effectOf selections selected settings zeros run called handed soundOf isWritten countRight runningRight waitingRight longIsFull takesOne takesTwo stepOf bodyLength isIdentity hasProgram testsOf orderOf judgeOf orderDoes isValid isHeard isController carry isFramed wholeOf stepDoes readyDoes takeOf
 as-the-paper-says = refl

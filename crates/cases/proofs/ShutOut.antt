@@ -4,7 +4,7 @@ use mathlib.Core.List.{List, [], _∷_}
 use mathlib.Core.Path.{_≡_, ap}
 use native.Mathlib.Omega.{arith}
 use lib.ListN.{getD}
-use Rattle.controls.specs.Formulas.{numberBy, nextBy}
+use Rattle.controls.specs.Formulas.{numberBy, numberFor, nextFor}
 use Rattle.controls.specs.Table.{rows, rowOf, selections, effectOf, selected}
 use Rattle.controls.specs.Applying.{store, applyOf}
 use Rattle.framing.specs.declared.Receiver.{Receiver}
@@ -71,7 +71,7 @@ module _ (box : Settings → ℕ → Receiver → ℕ → List ℕ → List ℕ 
 
   -- a box that never writes memory: controller 12 at 27 must stand in byte 8
   pub never-writes : Always (λ m reply l. l .memory ≡ m) → ⊥
-  unfolding settings zeros moving soundOf isWritten countRight runningRight waitingRight longIsFull takesOne takesTwo stepOf isValid stepDoes readyDoes takeOf isHeard isController carry applyOf store rowOf rows numberBy nextBy effectOf selections selected
+  unfolding settings zeros moving soundOf isWritten countRight runningRight waitingRight longIsFull takesOne takesTwo stepOf isValid stepDoes readyDoes takeOf isHeard isController carry applyOf store rowOf rows numberBy numberFor nextFor effectOf selections selected
   never-writes bad =
       let e : model (box settings 0 moving 27 memory empty empty .memory) ≡ 27 = ap (λ (l : TookByte). model (l .memory)) (keeps settings 0 moving 27 memory empty empty) in
       let b : model (box settings 0 moving 27 memory empty empty .memory) ≡ 0 = ap (λ (m : List ℕ). model m) (bad settings 0 moving 27 memory empty empty) in
@@ -88,7 +88,7 @@ module _ (box : Settings → ℕ → Receiver → ℕ → List ℕ → List ℕ 
 -- a box that acts on the first finished message and only numbers the later ones: after controller 12 at 27 and at 5, byte 8 is 5
 pub first-alone : (w v : WorldOf (boxRules settings)) (answers : AnswersOf (boxRules settings)) → Fresh (boxRules settings) w → w .store ≡ stateOf memory
     → History (boxRules settings) w (feed S0 (0xB0 ∷ 12 ∷ 27 ∷ 12 ∷ 5 ∷ [])) v answers → v .store ≡ stateOf (carry settings memory (Channel 0xB0 12 27) .memory) → ⊥
-unfolding settings zeros hears finishes takesOne isHeard isController carry applyOf store rowOf rows numberBy nextBy effectOf selections selected
+unfolding settings zeros hears finishes takesOne isHeard isController carry applyOf store rowOf rows numberBy numberFor nextFor effectOf selections selected
 first-alone w v answers new e history bad =
     let d = box-demand3 settings w v (feed S0 (0xB0 ∷ 12 ∷ 27 ∷ 12 ∷ 5 ∷ [])) answers new history .store in
     let five : model (v .store .memory) ≡ 5 = ap (λ (state : State). model (state .memory)) (rw e at d) in

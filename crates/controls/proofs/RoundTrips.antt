@@ -3,7 +3,7 @@ use Prim.Native.Nat.{ℕ, _≤_, _<_}
 use mathlib.Core.Bool.{true}
 use mathlib.Core.List.{List}
 use mathlib.Core.Logic.{inl, ⊎-elim}
-use mathlib.Core.Path.{_≡_, refl, ap, _∙_}
+use mathlib.Core.Path.{_≡_, refl, sym, ap, _∙_}
 use native.Mathlib.Omega.{arith}
 use lib.Dec.{eqb, ltb}
 use lib.ListN.{length, getD}
@@ -13,7 +13,7 @@ use Rattle.ground.proofs.Tests.{by}
 use Rattle.controls.specs.declared.Reading.{Reading}
 use Rattle.controls.specs.declared.Reading.the-variants.{Value, Refused}
 use Rattle.controls.specs.declared.Change.the-variants as change
-use Rattle.controls.specs.Formulas.{mOf, nextBy}
+use Rattle.controls.specs.Formulas.{numberFor, mOf, nextFor}
 use Rattle.controls.specs.Table.{programSize, none, rowOf, effectOf, selected}
 use Rattle.controls.specs.Fields.{readAt}
 use Rattle.controls.specs.Applying.{left, store, applyOf}
@@ -79,6 +79,17 @@ none-40 controller edit o n =
     back-open controller edit o
     ∙ ⊎-elim (λ s. absurd (n (s .0) (s .2 .within) (s .2 .gives))) (λ s. s .0) (row-shown controller (stored controller edit))
 
+-- Req 01: "a stored 0 in these three fields now gives 40", and so does every number below the row's least.
+pub below-least : (controller : ℕ) (edit : List ℕ) → Open controller edit → stored controller edit < rowOf controller .least → backOf controller edit ≡ Refused 40
+unfolding numberFor
+below-least controller edit o below =
+    let r = rowOf controller in
+    let number = stored controller edit in
+    none-40 controller edit o (λ v h g. which-formula (r .formula)
+    (λ t. let z = whole-upper controller t .2 in omega arith)
+    (λ t u. let z = whole-lower controller u .2 in omega arith)
+    (λ t u. let raised = sym (next-plain r v number t u) ∙ g in omega arith))
+
 -- A value that is shown back, applied again, changes no byte.
 pub shown-applied : (controller : ℕ) (edit : List ℕ) (value : ℕ) → allAtMost 0xFF edit ≡ true → backOf controller edit ≡ Value value
     → applyOf controller value edit ≡ left change.Applied edit
@@ -91,23 +102,23 @@ shown-applied controller edit value bytes e =
 
 -- the stored number has room in its row's bytes
 next-room : (controller value number : ℕ) → value ≤ rowOf controller .highest
-    → above (rowOf controller .width) (nextBy (rowOf controller .formula) value number) ≡ 0
+    → above (rowOf controller .width) (nextFor (rowOf controller) value number) ≡ 0
 next-room controller value number h =
     let r = rowOf controller in
     let m = mOf number in
     let bound = m-small number in
     let low = row-sane controller .low in
     which-formula (r .formula)
-    (λ t. rw (next-upper (r .formula) value number t, whole-upper controller t .1) (omega arith))
-    (λ t u. rw (next-lower (r .formula) value number t u, whole-lower controller u .1) (omega arith))
-    (λ t u. rw (next-plain (r .formula) value number t u) (number-room controller value h))
+    (λ t. rw (next-upper r value number t, whole-upper controller t .1) (omega arith))
+    (λ t u. rw (next-lower r value number t u, whole-lower controller u .1) (omega arith))
+    (λ t u. rw (next-plain r value number t u) (number-room controller value h))
 
 module _ (controller value : ℕ) (edit : List ℕ) (o : Open controller edit) (h : value ≤ rowOf controller .highest) where
   abbrev after : List ℕ
   after = store (rowOf controller) value edit
 
   abbrev next : ℕ
-  next = nextBy (rowOf controller .formula) value (stored controller edit)
+  next = nextFor (rowOf controller) value (stored controller edit)
 
   stored-after : stored controller after ≡ next
   unfolding store
@@ -138,7 +149,7 @@ module _ (controller value : ℕ) (edit : List ℕ) (o : Open controller edit) (
   applied-shown =
       let r = rowOf controller in
       let low = row-sane controller .low in
-      let gives = gives-again (r .formula) value (stored controller edit) (omega arith) in
+      let gives = gives-again r value (stored controller edit) (omega arith) in
       let back : backOf controller after ≡ shownOf r next = rw (← stored-after) (back-open controller after still-open) in
       ⊎-elim
       (λ s. let not-more : value < s .0 → ⊥ = λ l. s .2 .least value l gives in (s .0, back ∙ s .1, s .2, omega arith))

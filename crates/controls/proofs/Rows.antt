@@ -10,7 +10,7 @@ use borrow.Author.Tests.{eqb-true, leb-true, ltb-true, ne-eqb}
 use Rattle.ground.proofs.Tests.{both, either, by}
 use Rattle.ground.proofs.Computed.{every, every-at}
 use Rattle.controls.specs.declared.Row.{Row}
-use Rattle.controls.specs.Formulas.{m-upper, m-lower, numberBy}
+use Rattle.controls.specs.Formulas.{m-upper, m-lower, numberBy, numberFor}
 use Rattle.controls.specs.Table.{Entry, programSize, Sane, find, none, rowAs, rows, rowOf}
 use Rattle.controls.proofs.Bytes.{Outside, above}
 
@@ -40,7 +40,7 @@ module _ {A : Type 0} (other : A) where
 
 -- the row of a controller that is not in the table
 abbrev pub unlisted : Row
-unlisted = rowAs 0 0 0 0 none
+unlisted = rowAs 0 0 0 0 0 none
 
 -- Facts that hold of every row, each by one test that antt computes over the list.
 implied : (a b : Bool) → cond a b true ≡ true → a ≡ true → b ≡ true
@@ -55,23 +55,31 @@ fact test o t controller = found unlisted test o rows t controller
 abbrev isSane : Row → Bool
 isSane r = leb (r .place + r .width) programSize && (leb (r .width) 3 && leb (r .highest) 127)
 
--- 30 and 62 take every seven bits, and have three bytes
+-- 30 and 62 take every seven bits, have three bytes, and are not raised
 abbrev whole-m : ℕ → Row → Bool
-whole-m formula r = cond (eqb (r .formula) formula) (leb 127 (r .highest) && eqb (r .width) 3) true
+whole-m formula r = cond (eqb (r .formula) formula) (leb 127 (r .highest) && (eqb (r .width) 3 && eqb (r .least) 0)) true
+
+abbrev pub Whole : Row → Type 0
+Whole r = (127 ≤ r .highest) × (r .width ≡ 3) × (r .least ≡ 0)
+
+-- a test of a row and its number, at each of the row's values
+abbrev at-each : (Row → ℕ → Bool) → Row → Bool
+at-each test r = every (λ v. test r (numberFor r v)) (r .highest + 1)
 
 module _ (controller : ℕ) where
   wholes : (formula : ℕ) → whole-m formula unlisted ≡ true → all unlisted (λ _. whole-m formula) rows ≡ true → eqb (rowOf controller .formula) formula ≡ true
-      → (127 ≤ rowOf controller .highest) × (rowOf controller .width ≡ 3)
+      → Whole (rowOf controller)
   wholes formula o t e =
       let r = rowOf controller in
-      let p = both (leb 127 (r .highest)) (eqb (r .width) 3) (implied _ _ (fact (λ _. whole-m formula) (λ _. o) t controller) e) in
-      (leb-true _ _ (p .0), eqb-true _ _ (p .1))
+      let p = both (leb 127 (r .highest)) (eqb (r .width) 3 && eqb (r .least) 0) (implied _ _ (fact (λ _. whole-m formula) (λ _. o) t controller) e) in
+      let q = both (eqb (r .width) 3) (eqb (r .least) 0) (p .1) in
+      (leb-true _ _ (p .0), eqb-true _ _ (q .0), eqb-true _ _ (q .1))
 
-  pub whole-upper : eqb (rowOf controller .formula) m-upper ≡ true → (127 ≤ rowOf controller .highest) × (rowOf controller .width ≡ 3)
+  pub whole-upper : eqb (rowOf controller .formula) m-upper ≡ true → Whole (rowOf controller)
   unfolding rows
   whole-upper = wholes m-upper refl refl
 
-  pub whole-lower : eqb (rowOf controller .formula) m-lower ≡ true → (127 ≤ rowOf controller .highest) × (rowOf controller .width ≡ 3)
+  pub whole-lower : eqb (rowOf controller .formula) m-lower ≡ true → Whole (rowOf controller)
   unfolding rows
   whole-lower = wholes m-lower refl refl
 
@@ -83,13 +91,22 @@ module _ (controller : ℕ) where
       let q = both (leb (r .width) 3) (leb (r .highest) 127) (p .1) in
       record { inside = leb-true _ _ (p .0); narrow = leb-true _ _ (q .0); low = leb-true _ _ (q .1) }
 
-  -- a row's numbers have room in its bytes
-  pub number-room : (v : ℕ) → v ≤ rowOf controller .highest → above (rowOf controller .width) (numberBy (rowOf controller .formula) v) ≡ 0
-  unfolding rows numberBy
-  number-room v h =
+  -- what the test says of every row holds of the controller's
+  numbers : (test : Row → ℕ → Bool) → at-each test unlisted ≡ true → all unlisted (λ _. at-each test) rows ≡ true
+      → (v : ℕ) → v ≤ rowOf controller .highest → test (rowOf controller) (numberFor (rowOf controller) v) ≡ true
+  numbers test o t v h =
       let r = rowOf controller in
-      let roomy : ℕ → Row → Bool = λ _ r. every (λ v. eqb (above (r .width) (numberBy (r .formula) v)) 0) (r .highest + 1) in
-      eqb-true _ _ (every-at (λ v. eqb (above (r .width) (numberBy (r .formula) v)) 0) (r .highest + 1) (fact roomy (λ _. refl) refl controller) v (omega arith))
+      every-at (λ v. test r (numberFor r v)) (r .highest + 1) (fact (λ _. at-each test) (λ _. o) t controller) v (omega arith)
+
+  -- a row's numbers have room in its bytes
+  pub number-room : (v : ℕ) → v ≤ rowOf controller .highest → above (rowOf controller .width) (numberFor (rowOf controller) v) ≡ 0
+  unfolding rows numberBy numberFor
+  number-room v h = eqb-true _ _ (numbers (λ r n. eqb (above (r .width) n) 0) refl refl v h)
+
+  -- and in two bytes, as scaling gives them
+  pub number-low : (v : ℕ) → v ≤ rowOf controller .highest → numberFor (rowOf controller) v < 65536
+  unfolding rows numberBy numberFor
+  number-low v h = ltb-true _ _ (numbers (λ _ n. ltb n 65536) refl refl v h)
 
   -- a shared byte is not byte 46
   pub shared-beyond : eqb (rowOf controller .effect) none ≡ false → 46 < rowOf controller .place

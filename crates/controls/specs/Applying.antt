@@ -7,7 +7,7 @@ use lib.ListN.{length, getD}
 use Rattle.controls.specs.declared.Row.{Row}
 use Rattle.controls.specs.declared.Change.{Change}
 use Rattle.controls.specs.declared.Change.the-variants.{Applied, Refused}
-use Rattle.controls.specs.Formulas.{nextBy}
+use Rattle.controls.specs.Formulas.{nextFor}
 use Rattle.controls.specs.Table.{programSize, rowOf, selected}
 use Rattle.controls.specs.Fields.{readAt, putAt}
 
@@ -21,7 +21,7 @@ left answer edit = record { answer = answer; edit = edit }
 
 -- the edit buffer with the row's number for a value in the row's bytes
 unfoldable pub store : Row → ℕ → List ℕ → List ℕ
-store r value edit = putAt (r .width) (r .place) (nextBy (r .formula) value (readAt (r .width) (r .place) edit)) edit
+store r value edit = putAt (r .width) (r .place) (nextFor r value (readAt (r .width) (r .place) edit)) edit
 
 -- 30, then 17, 18, 19 in that order, then only its row's bytes change
 abbrev pub applyRow : Row → ℕ → List ℕ → Left

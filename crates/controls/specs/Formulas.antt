@@ -1,7 +1,8 @@
 -- The formulas of "Controllers into the edit buffer": "v is the value received, division drops the remainder".
-use Prim.Native.Nat.{ℕ, _+_, _-_, _*_, _/_, _%_, min}
+use Prim.Native.Nat.{ℕ, _+_, _-_, _*_, _/_, _%_, min, max}
 use mathlib.Core.Bool.{cond}
 use lib.Dec.{eqb}
+use Rattle.controls.specs.declared.Row.{Row}
 
 -- Their names, as the page writes them, in its order.
 abbrev pub v/64 : ℕ
@@ -55,13 +56,17 @@ numberBy formula v =
     (cond (eqb formula v×25) (v * 25)
     0)))))))))
 
+-- Req 01, "After the formula, 51 is raised to at least 200, 58 to at least 150 and 54 to at least 1": a row's number for v
+unfoldable pub numberFor : Row → ℕ → ℕ
+numberFor r v = max (numberBy (r .formula) v) (r .least)
+
 -- "Let m be the stored number / 6, at most 16,383."
 unfoldable pub mOf : ℕ → ℕ
 mOf stored = min (stored / 6) 16383
 
 -- the number that is stored for v where `stored` stood before: "30 replaces m's upper seven bits, 62 its lower seven; 6 x m is stored"
-unfoldable pub nextBy : ℕ → ℕ → ℕ → ℕ
-nextBy formula v stored =
-    cond (eqb formula m-upper) (6 * (v * 128 + mOf stored % 128))
-    (cond (eqb formula m-lower) (6 * (mOf stored / 128 * 128 + v))
-    (numberBy formula v))
+unfoldable pub nextFor : Row → ℕ → ℕ → ℕ
+nextFor r v stored =
+    cond (eqb (r .formula) m-upper) (6 * (v * 128 + mOf stored % 128))
+    (cond (eqb (r .formula) m-lower) (6 * (mOf stored / 128 * 128 + v))
+    (numberFor r v))

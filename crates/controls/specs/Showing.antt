@@ -7,14 +7,14 @@ use lib.ListN.{length, getD}
 use Rattle.controls.specs.declared.Row.{Row}
 use Rattle.controls.specs.declared.Reading.{Reading}
 use Rattle.controls.specs.declared.Reading.the-variants.{Value, Refused}
-use Rattle.controls.specs.Formulas.{m-upper, m-lower, numberBy, mOf}
+use Rattle.controls.specs.Formulas.{m-upper, m-lower, numberFor, mOf}
 use Rattle.controls.specs.Table.{programSize, rowOf, selected}
 use Rattle.controls.specs.Fields.{readAt}
 
 -- "the smallest value within the controller's range whose formula gives the stored number": the first of `count` values from v on
-abbrev pub smallest : ℕ → ℕ → ℕ → ℕ → Reading
-smallest formula stored zero v = Refused 40
-smallest formula stored (suc count) v = cond (eqb (numberBy formula v) stored) (Value v) (smallest formula stored count (v + 1))
+abbrev pub smallest : Row → ℕ → ℕ → ℕ → Reading
+smallest r stored zero v = Refused 40
+smallest r stored (suc count) v = cond (eqb (numberFor r v) stored) (Value v) (smallest r stored count (v + 1))
 
 -- "For 30 and 62 the number must be 6 x m with m up to 16,383; they show m's upper and lower seven bits."
 abbrev pub sevenBits : ℕ → ℕ → Reading
@@ -24,7 +24,7 @@ unfoldable pub shownOf : Row → ℕ → Reading
 shownOf r stored =
     cond (eqb (r .formula) m-upper) (sevenBits stored (mOf stored / 128))
     (cond (eqb (r .formula) m-lower) (sevenBits stored (mOf stored % 128))
-    (smallest (r .formula) stored (r .highest + 1) 0))
+    (smallest r stored (r .highest + 1) 0))
 
 -- "Tests: 30, 17, 19, 40."
 abbrev pub backRow : Row → List ℕ → Reading

@@ -35,13 +35,13 @@ rotary = 4
 abbrev pub tremolo : ℕ
 tremolo = 5
 
--- the first byte of the field, its bytes, the formula, the highest value, the effect that must be selected
-abbrev pub rowAs : ℕ → ℕ → ℕ → ℕ → ℕ → Row
-rowAs place width formula highest effect =
-    record { place = place; width = width; formula = formula; highest = highest; effect = effect }
+-- the first byte of the field, its bytes, the formula, the least number (Req 01), the highest value, the effect that must be selected
+abbrev pub rowAs : ℕ → ℕ → ℕ → ℕ → ℕ → ℕ → Row
+rowAs place width formula least highest effect =
+    record { place = place; width = width; formula = formula; least = least; highest = highest; effect = effect }
 
-abbrev pub row : ℕ → ℕ → ℕ → ℕ → ℕ → ℕ → Entry Row
-row controller place width formula highest effect = record { key = controller; value = rowAs place width formula highest effect }
+abbrev pub row : ℕ → ℕ → ℕ → ℕ → ℕ → ℕ → ℕ → Entry Row
+row controller place width formula least highest effect = record { key = controller; value = rowAs place width formula least highest effect }
 
 -- "72 bytes each": a program, and the edit buffer
 abbrev pub programSize : ℕ
@@ -56,60 +56,60 @@ pub record Sane (r : Row) : Type 0 where
 -- "a pair c>b is controller and byte"
 unfoldable pub rows : List (Entry Row)
 rows =
-    row 25 0 1 v/64 127 none ∷
-    row 26 1 1 v/64 127 none ∷
-    row 27 2 1 v/64 127 none ∷
-    row 28 3 1 v/64 127 none ∷
-    row 50 4 1 v/64 127 none ∷
-    row 36 5 1 v/64 127 none ∷
-    row 22 6 1 v/64 127 none ∷
-    row 73 7 1 v/64 127 none ∷
-    row 47 24 1 v/64 127 none ∷
-    row 37 38 1 v/64 127 none ∷
-    row 13 9 1 v/2 127 none ∷
-    row 20 10 1 v/2 127 none ∷
-    row 14 11 1 v/2 127 none ∷
-    row 15 12 1 v/2 127 none ∷
-    row 16 13 1 v/2 127 none ∷
-    row 21 14 1 v/2 127 none ∷
-    row 17 15 1 v/2 127 none ∷
-    row 24 17 1 v/2 127 none ∷
-    row 32 34 1 v/2 127 none ∷
-    row 34 36 1 v/2 127 none ∷
-    row 38 39 1 v/2 127 none ∷
-    row 39 40 1 v/2 127 none ∷
-    row 40 41 1 v/2 127 none ∷
-    row 41 42 1 v/2 127 none ∷
-    row 18 43 1 v/2 127 none ∷
-    row 72 45 1 v/2 127 none ∷
-    row 1 47 1 v/2 127 none ∷
-    row 4 18 1 as-received 127 none ∷
-    row 44 19 1 as-received 127 none ∷
-    row 45 20 1 as-received 127 none ∷
-    row 7 22 1 as-received 127 none ∷
-    row 46 23 1 as-received 127 none ∷
-    row 12 8 1 as-received 27 none ∷
-    row 71 44 1 as-received 15 none ∷
-    row 19 46 1 as-received 15 none ∷
-    row 23 16 1 threshold 127 none ∷
-    row 30 26 3 m-upper 127 none ∷
-    row 62 26 3 m-lower 127 none ∷
-    row 49 48 1 v/2 127 swell ∷
-    row 42 48 1 v/22 127 compressor ∷
-    row 51 48 2 v×50 127 chorus ∷
-    row 52 50 2 v×256/104 127 chorus ∷
-    row 53 52 1 as-received 127 chorus ∷
-    row 54 53 2 v×256/42 127 chorus ∷
-    row 55 48 1 v/64 127 rotary ∷
-    row 56 49 2 v×22+100 127 rotary ∷
-    row 57 51 2 v×22+100 127 rotary ∷
-    row 58 48 2 v×25 127 tremolo ∷
-    row 59 50 1 as-received 127 tremolo ∷
+    row 25 0 1 v/64 0 127 none ∷
+    row 26 1 1 v/64 0 127 none ∷
+    row 27 2 1 v/64 0 127 none ∷
+    row 28 3 1 v/64 0 127 none ∷
+    row 50 4 1 v/64 0 127 none ∷
+    row 36 5 1 v/64 0 127 none ∷
+    row 22 6 1 v/64 0 127 none ∷
+    row 73 7 1 v/64 0 127 none ∷
+    row 47 24 1 v/64 0 127 none ∷
+    row 37 38 1 v/64 0 127 none ∷
+    row 13 9 1 v/2 0 127 none ∷
+    row 20 10 1 v/2 0 127 none ∷
+    row 14 11 1 v/2 0 127 none ∷
+    row 15 12 1 v/2 0 127 none ∷
+    row 16 13 1 v/2 0 127 none ∷
+    row 21 14 1 v/2 0 127 none ∷
+    row 17 15 1 v/2 0 127 none ∷
+    row 24 17 1 v/2 0 127 none ∷
+    row 32 34 1 v/2 0 127 none ∷
+    row 34 36 1 v/2 0 127 none ∷
+    row 38 39 1 v/2 0 127 none ∷
+    row 39 40 1 v/2 0 127 none ∷
+    row 40 41 1 v/2 0 127 none ∷
+    row 41 42 1 v/2 0 127 none ∷
+    row 18 43 1 v/2 0 127 none ∷
+    row 72 45 1 v/2 0 127 none ∷
+    row 1 47 1 v/2 0 127 none ∷
+    row 4 18 1 as-received 0 127 none ∷
+    row 44 19 1 as-received 0 127 none ∷
+    row 45 20 1 as-received 0 127 none ∷
+    row 7 22 1 as-received 0 127 none ∷
+    row 46 23 1 as-received 0 127 none ∷
+    row 12 8 1 as-received 0 27 none ∷
+    row 71 44 1 as-received 0 15 none ∷
+    row 19 46 1 as-received 0 15 none ∷
+    row 23 16 1 threshold 0 127 none ∷
+    row 30 26 3 m-upper 0 127 none ∷
+    row 62 26 3 m-lower 0 127 none ∷
+    row 49 48 1 v/2 0 127 swell ∷
+    row 42 48 1 v/22 0 127 compressor ∷
+    row 51 48 2 v×50 200 127 chorus ∷
+    row 52 50 2 v×256/104 0 127 chorus ∷
+    row 53 52 1 as-received 0 127 chorus ∷
+    row 54 53 2 v×256/42 1 127 chorus ∷
+    row 55 48 1 v/64 0 127 rotary ∷
+    row 56 49 2 v×22+100 0 127 rotary ∷
+    row 57 51 2 v×22+100 0 127 rotary ∷
+    row 58 48 2 v×25 150 127 tremolo ∷
+    row 59 50 1 as-received 0 127 tremolo ∷
     []
 
 -- the row of a controller; "a controller not in the table or above 127" has a row of no bytes
 unfoldable pub rowOf : ℕ → Row
-rowOf controller = find (rowAs 0 0 0 0 none) controller rows
+rowOf controller = find (rowAs 0 0 0 0 0 none) controller rows
 
 abbrev pub selects : ℕ → ℕ → Entry ℕ
 selects value effect = record { key = value; value = effect }

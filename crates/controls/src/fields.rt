@@ -66,6 +66,6 @@ pub(crate) fn store(row: Row, value: u32, edit: &mut [u8])
         edit,
         place,
         row.width,
-        formulas::next(row.formula, value as u16, stored),
+        formulas::next(row, value as u16, stored),
     );
 }

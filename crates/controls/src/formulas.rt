@@ -1,7 +1,7 @@
 // The formulas, and the way back from a stored number.
 ghost use mathlib.Core.Path.{_≡_};
 ghost use Prim.Native.Nat.{_≤_, _+_, _*_, _/_, _%_};
-ghost use Rattle.controls.specs.Formulas.{numberBy, mOf, nextBy};
+ghost use Rattle.controls.specs.Formulas.{numberBy, numberFor, mOf, nextFor};
 ghost use Rattle.controls.specs.Showing.{smallest, sevenBits, shownOf};
 use crate::Reading;
 use crate::Row;
@@ -31,7 +31,7 @@ pub(crate) const V_22_100: u8 = 10;
 pub(crate) const V_25: u8 = 11;
 
 // The number that a formula gives for v.
-pub(crate) fn number(formula: u8, v: u16) -> u16
+fn number_by(formula: u8, v: u16) -> u16
     requires { ⌜ v ≤ 127 ⌝ }
     ensures { λ r. ⌜ r ≡ numberBy formula v ⌝ }
 {
@@ -68,6 +68,16 @@ pub(crate) fn number(formula: u8, v: u16) -> u16
     0
 }
 
+// The row's number for v: its formula's, raised to the row's least.
+pub(crate) fn number_for(row: Row, v: u16) -> u16
+    requires { ⌜ v ≤ 127 ⌝ }
+    ensures { λ r. ⌜ r ≡ numberFor row v ⌝ }
+{
+    let number = number_by(row.formula, v);
+    let least = row.least as u16;
+    if number < least { least } else { number }
+}
+
 // m of a stored number.
 fn m_of(stored: u32) -> u32
     ensures { λ r. ⌜ r ≡ mOf stored ⌝ }
@@ -77,18 +87,18 @@ fn m_of(stored: u32) -> u32
 }
 
 // The number to store for v where `stored` stands.
-pub(crate) fn next(formula: u8, v: u16, stored: u32) -> u32
+pub(crate) fn next(row: Row, v: u16, stored: u32) -> u32
     requires { ⌜ v ≤ 127 ⌝ }
-    ensures { λ r. ⌜ r ≡ nextBy formula v stored ⌝ }
+    ensures { λ r. ⌜ r ≡ nextFor row v stored ⌝ }
 {
     let m = m_of(stored);
-    if formula == M_UPPER {
+    if row.formula == M_UPPER {
         return 6 * (v as u32 * 128 + m % 128);
     }
-    if formula == M_LOWER {
+    if row.formula == M_LOWER {
         return 6 * (m / 128 * 128 + v as u32);
     }
-    number(formula, v) as u32
+    number_for(row, v) as u32
 }
 
 // The value that shows a stored number.
@@ -103,7 +113,7 @@ pub(crate) fn shown(row: Row, stored: u32) -> Reading
     if row.formula == M_LOWER {
         return seven_bits(stored, m, m % 128);
     }
-    first(row.formula, stored, row.highest as u16)
+    first(row, stored)
 }
 
 // Seven bits of m, where the stored number is 6 x m.
@@ -118,14 +128,15 @@ fn seven_bits(stored: u32, m: u32, bits: u32) -> Reading
     Reading::Refused(40)
 }
 
-// The first value up to the highest whose formula gives the stored number.
-fn first(formula: u8, stored: u32, highest: u16) -> Reading
-    requires { ⌜ highest ≤ 127 ⌝ }
-    ensures { λ r. ⌜ r ≡ smallest formula stored (highest + 1) 0 ⌝ }
+// The first value up to the row's highest that gives the stored number.
+fn first(row: Row, stored: u32) -> Reading
+    requires { ⌜ row .highest ≤ 127 ⌝ }
+    ensures { λ r. ⌜ r ≡ smallest row stored (row .highest + 1) 0 ⌝ }
 {
+    let highest = row.highest as u16;
     let mut v = 0;
     while v <= highest {
-        if number(formula, v) as u32 == stored {
+        if number_for(row, v) as u32 == stored {
             return Reading::Value(v);
         }
         v += 1;

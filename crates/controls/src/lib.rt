@@ -19,6 +19,7 @@ pub struct Row {
     pub place: u8,
     pub width: u8,
     pub formula: u8,
+    pub least: u8,
     pub highest: u8,
     pub effect: u8,
 }
@@ -35,7 +36,7 @@ pub enum Reading {
     Refused(u8),
 }
 
-// The number that the controller's formula gives for a value.
+// The controller's number for a value.
 pub fn scale(controller: u32, value: u32) -> Reading
     ensures { λ r. ⌜ r ≡ scaleOf controller value ⌝ }
 {
@@ -60,7 +61,7 @@ fn scale_row(row: Row, value: u32) -> Reading
     if highest < value {
         return Reading::Refused(18);
     }
-    Reading::Value(formulas::number(row.formula, value as u16))
+    Reading::Value(formulas::number_for(row, value as u16))
 }
 
 // The controller's number for a value into its bytes of the edit buffer.

@@ -10,11 +10,11 @@ use borrow.Author.Tests.{ltb-false}
 use Rattle.ground.proofs.Tests.{by}
 use Rattle.controls.specs.declared.Reading.{Reading}
 use Rattle.controls.specs.declared.Reading.the-variants as reading
-use Rattle.controls.specs.Formulas.{v/64, v/2, as-received, threshold, m-upper, m-lower, v/22, v×50, v×256/104, v×256/42, v×22+100, v×25, numberBy}
+use Rattle.controls.specs.Formulas.{m-upper, m-lower}
 use Rattle.controls.specs.Table.{rowOf}
 use Rattle.controls.specs.Scaling.{scaleOf}
 use Rattle.controls.specs.Showing.{backOf}
-use Rattle.controls.proofs.Rows.{row-sane}
+use Rattle.controls.proofs.Rows.{row-sane, number-low}
 use Rattle.controls.proofs.RoundTrips.{shown-least}
 use Rattle.framing.specs.declared.Receiver.{Receiver}
 use Rattle.sockets.specs.Framer.{SysEx}
@@ -78,32 +78,16 @@ abbrev pub Apart : Reading → ℕ → Type 0
 Apart (reading.Value value) n = (n ≡ value) × (n < 65536)
 Apart (reading.Refused number) n = n ≡ 65536 + number
 
-number-low : (formula v : ℕ) → v ≤ 127 → numberBy formula v < 65536
-unfolding numberBy
-number-low formula v h =
-    let Low : ℕ → Type 0 = λ n. n < 65536 in
-    by Low (eqb formula v/64) _ _ (λ _. omega arith)
-    (λ _. by Low (eqb formula v/2) _ _ (λ _. omega arith)
-    (λ _. by Low (eqb formula as-received) _ _ (λ _. omega arith)
-    (λ _. by Low (eqb formula threshold) _ _ (λ _. omega arith)
-    (λ _. by Low (eqb formula v/22) _ _ (λ _. omega arith)
-    (λ _. by Low (eqb formula v×50) _ _ (λ _. omega arith)
-    (λ _. by Low (eqb formula v×256/104) _ _ (λ _. omega arith)
-    (λ _. by Low (eqb formula v×256/42) _ _ (λ _. omega arith)
-    (λ _. by Low (eqb formula v×22+100) _ _ (λ _. omega arith)
-    (λ _. by Low (eqb formula v×25) _ _ (λ _. omega arith) (λ _. omega arith))))))))))
-
 pub scale-apart : (controller value : ℕ) → Apart (scaleOf controller value) (scaleNumber controller value)
 unfolding scaleNumber scaleOf said
 scale-apart controller value =
     let r = rowOf controller in
     let P : Reading → Type 0 = λ x. Apart x (said x) in
-    let low = row-sane controller .low in
     by P (eqb (r .width) 0) _ _ (λ _. refl)
     (λ _. by P (eqb (r .formula) m-upper) _ _ (λ _. refl)
     (λ _. by P (eqb (r .formula) m-lower) _ _ (λ _. refl)
     (λ _. by P (ltb (r .highest) value) _ _ (λ _. refl)
-    (λ h. let within = ltb-false (r .highest) value h in (refl, number-low (r .formula) value (omega arith))))))
+    (λ h. (refl, number-low controller value (ltb-false (r .highest) value h))))))
 
 shown-apart : (controller : ℕ) (edit : List ℕ) (x : Reading) → backOf controller edit ≡ x → Apart x (said x)
 unfolding said

@@ -96,7 +96,7 @@ pub extern "C" fn costerbloom_whole(
     numbers::packed(answer)
 }
 
-// The number that a controller's formula gives for a value.
+// The controller's number for a value.
 #[no_mangle]
 pub extern "C" fn costerbloom_scale(controller: u32, value: u32) -> u32
     ensures { λ r. ⌜ r ≡ scaleNumber controller value ⌝ }

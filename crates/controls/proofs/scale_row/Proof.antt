@@ -5,7 +5,7 @@ use Rattle.controls.proofs.scale_row.Statement.{statement}
 use Rattle.controls.proofs.scale_row.Tie as tie
 
 returns-5 : tie.Need-returns-5
-returns-5 c = search (tests, ← c .number .ensures)
+returns-5 c = search (tests, ← c .number-for .ensures)
 
 pub scale-row-spec : {M : Type 1} → statement M
 scale-row-spec =

@@ -9,22 +9,22 @@ use Rattle.controls.proofs.formulas.first.Statement.{statement}
 use Rattle.controls.proofs.formulas.first.Tie as tie
 
 abbrev Inv-loop : tie.InvT-loop
-Inv-loop formula stored highest v₀ v = (v ≤ highest + 1) × (smallest formula stored (highest + 1 - v) v ≡ smallest formula stored (highest + 1) 0)
+Inv-loop row stored highest v₀ v = (v ≤ row .highest + 1) × (smallest row stored (row .highest + 1 - v) v ≡ smallest row stored (row .highest + 1) 0)
 
 abbrev μ-loop : tie.MeasureT-loop
-μ-loop formula stored highest v₀ v = highest + 1 - v
+μ-loop row stored highest v₀ v = row .highest + 1 - v
 
 loop-holds : tie.Need-loop-holds Inv-loop μ-loop
-loop-holds c = let all : c .args .highest + 1 - 0 ≡ c .args .highest + 1 = omega arith in (search needs, rw all)
+loop-holds c = let highest = c .before .args .row .highest in let all : highest + 1 - 0 ≡ highest + 1 = omega arith in (search needs, rw all)
 
-number-requires : tie.Need-number-requires Inv-loop μ-loop
-number-requires c κs = omega arith
+number-for-requires : tie.Need-number-for-requires Inv-loop μ-loop
+number-for-requires c κs = omega arith
 
 returns : tie.Need-returns Inv-loop μ-loop
-returns c = look-stop _ _ _ _ _ (c .before .before .before .loop .inv .1) (c .before .before .loop-test .taken) (sym (c .before .number .ensures) ∙ c .if1 .taken)
+returns c = look-stop _ _ _ _ _ (c .before .before .before .loop .inv .1) (c .before .before .loop-test .taken) (sym (c .before .number-for .ensures) ∙ c .if1 .taken)
 
 loop-again : tie.Need-loop-again Inv-loop μ-loop
-loop-again c = (omega arith, look-turn _ _ _ _ _ (c .before .before .before .loop .inv .1) (c .before .before .loop-test .taken) (λ e. c .if1 .left (c .before .number .ensures ∙ e)))
+loop-again c = (omega arith, look-turn _ _ _ _ _ (c .before .before .before .loop .inv .1) (c .before .before .loop-test .taken) (λ e. c .if1 .left (c .before .number-for .ensures ∙ e)))
 
 returns-2 : tie.Need-returns-2 Inv-loop μ-loop
 returns-2 c = look-end _ _ _ _ _ (c .before .loop .inv .1) (c .loop-test .left)
@@ -35,8 +35,9 @@ first-spec =
     (tie.spec
     Inv-loop
     μ-loop
+    (λ c. search needs)
     loop-holds
-    number-requires
+    number-for-requires
     (λ c. search needs)
     returns
     (λ c. search needs)

@@ -32,6 +32,5 @@ shown-spec =
     returns
     (λ c κs. search needs)
     returns-2
-    (λ c. search needs)
     (λ c κs. search needs)
     returns-3)

@@ -2,12 +2,12 @@
 use Rattle.controls.specs.Formulas.{numberBy}
 use Rattle.ground.proofs.Tests.{tests}
 use borrow.Author.Needs.{needs}
-use Rattle.controls.proofs.formulas.number.Statement.{statement}
-use Rattle.controls.proofs.formulas.number.Tie as tie
+use Rattle.controls.proofs.formulas.number_by.Statement.{statement}
+use Rattle.controls.proofs.formulas.number_by.Tie as tie
 
-pub number-spec : {M : Type 1} → statement M
+pub number-by-spec : {M : Type 1} → statement M
 unfolding numberBy
-number-spec =
+number-by-spec =
     tie.close
     (tie.spec
     (λ c. search tests)
