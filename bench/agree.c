@@ -1,5 +1,5 @@
-/* Whether the plain side is the same box: every value scaled and shown back, then random calls to both, compared in
- * every bit that is left. */
+/* Whether the plain side is the same box: every value scaled, the shared fields shown back, then random calls to both,
+ * compared in every bit that is left. */
 #include "side.h"
 
 typedef struct {
@@ -72,7 +72,7 @@ static int shows_same(const uint8_t *memory)
  * place or at an odd one; each number stands at both, one after the other. */
 static int fields_same(void)
 {
-    enum { HIGHEST = 6350, EDIT = COSTERBLOOM_MEMORY - 72 };
+    enum { HIGHEST = 6350, EDIT = COSTERBLOOM_MEMORY - COSTERBLOOM_PROGRAM };
     static const uint8_t SELECTING[] = {14, 7, 0, 2, 5};
     static uint8_t memory[COSTERBLOOM_MEMORY];
     for (size_t effect = 0; effect < sizeof SELECTING; effect++) {

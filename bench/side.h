@@ -45,8 +45,9 @@ static inline int same_box(const box *a, const box *b)
            same(a->receive, b->receive, sizeof a->receive) && same(a->reply, b->reply, sizeof a->reply);
 }
 
-/* Scales and shows back every value on both sides, then calls both with the same random calls, refused ones too, and
- * compares all that is left. Returns how many random calls agreed; less than `calls` where anything did not. */
+/* Scales every value and shows back the shared fields on both sides, then calls both with the same random calls,
+ * refused ones too, and compares all that is left. Returns how many random calls agreed; less than `calls` where
+ * anything did not. */
 uint32_t agree(box *library, box *plain, uint32_t calls);
 
 #endif

@@ -79,11 +79,12 @@ static void expect_rows(const char *call, uint64_t (*answer)(const struct argume
     }
 }
 
-/* Document 01's bench cases, and numbers that must not be cut to a byte. */
+/* Bench cases of document 01, the least number of Req 01, and numbers that must not be cut to a byte. */
 static void expect_numbers(void)
 {
     expect(costerbloom_scale(51, 127) == 6350, "scale", "51 at 127");
     expect(costerbloom_scale(56, 0) == 100, "scale", "56 at 0");
+    expect(costerbloom_scale(51, 0) == 200, "scale", "51 at 0");
     expect(costerbloom_scale(256 + 51, 127) == REFUSED + 17, "scale", "307 at 127");
     expect(costerbloom_scale(51, 256 + 127) == REFUSED + 18, "scale", "51 at 383");
     memory[36 * COSTERBLOOM_PROGRAM + 9] = 63;

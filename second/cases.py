@@ -34,7 +34,7 @@ def check_halves():
 
 
 def check_scaling():
-    """The numbers the formulas give."""
+    """The numbers that controllers give."""
     cases = (
         (25, 63, 0), (25, 64, 1),
         (23, 0, 96), (23, 64, 47), (23, 127, 0),

@@ -228,7 +228,7 @@ def turn_feed(script, chance):
 
 
 def turn_scale(script, chance):
-    """Ask for formulas, in the table and out of it."""
+    """Ask for scaled values, in the table and out of it."""
     script.controller(chance.choice((*TABLE, *NO_CONTROLLERS,
                                      chance.getrandbits(32))))
     script.scale(chance.choice(VALUES), chance.randrange(130),

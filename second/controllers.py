@@ -75,7 +75,7 @@ class Rule(NamedTuple):
 
 
 def raise_formula(controller, formula):
-    """Return the formula, "raised to at least" a number where Req 01 does."""
+    """Return the formula, "raised to at least" a number if Req 01 says so."""
     if controller not in AT_LEAST:
         return formula
     return lambda v: max(formula(v), AT_LEAST[controller])
@@ -176,7 +176,7 @@ def show_part(controller, stored):
 
 
 def scale(controller: int, value: int) -> tuple:
-    """Return ('value', the formula's number) or ('refused', 17 or 18)."""
+    """Return ('value', the controller's number) or ('refused', 17 or 18)."""
     rule = TABLE.get(controller)
     # "A controller not in the table or above 127, and 30 and 62, which need
     # a stored number, are 17"

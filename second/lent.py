@@ -211,7 +211,7 @@ def add_refused(script):
 
 
 def add_scaling(script, controllers, values):
-    """Formulas at values, in the table and out of it, in range and out."""
+    """Scaling at values, in the table and out of it, in range and out."""
     for controller in controllers:
         script.controller(controller)
         script.scale(*values)

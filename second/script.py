@@ -91,7 +91,7 @@ class Script:
             self.add('N', half % 256, half // 256)
 
     def scale(self, *values):
-        """Ask for the controller's formula at values n + 2^24 x v."""
+        """Ask for the controller's number for values n + 2^24 x v."""
         for value in values:
             self.add('K', value % 256, value // 256 % 256, value >> 24)
 

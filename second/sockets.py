@@ -150,7 +150,7 @@ def add_shared(script, socket, values):
 
 
 def add_raised(script, socket):
-    """Fields that a dump makes 0, then the moves that Req 01 raises."""
+    """Fields that a dump makes 0, then moves that are raised and others."""
     for controller in AT_LEAST:
         rule = TABLE[controller]
         # "Field ranges are not tested when a dump is stored."

@@ -11,13 +11,13 @@ use Rattle.cases.proofs.Case.{Case, _is_, Given, scaled, shown, with, a
 
 pub raised : List Case
 raised =
-    -- "51 is raised to at least 200": up to 4, and not from 5 on
+    -- "51 is raised to at least 200": 200 up to 4, the formula's number from 5 on
     scaled 51 0 is (0 ∷ 200 ∷ []) ∷
     scaled 51 3 is (0 ∷ 200 ∷ []) ∷
     scaled 51 4 is (0 ∷ 200 ∷ []) ∷
     scaled 51 5 is (0 ∷ 250 ∷ []) ∷
     bytes 48 2 (after 51 0 (with 46 0)) is (0xC8 ∷ 0x00 ∷ []) ∷
-    -- "58 to at least 150": up to 6
+    -- "58 to at least 150": 150 up to 6
     scaled 58 0 is (0 ∷ 150 ∷ []) ∷
     scaled 58 6 is (0 ∷ 150 ∷ []) ∷
     scaled 58 7 is (0 ∷ 175 ∷ []) ∷
@@ -26,7 +26,7 @@ raised =
     scaled 54 0 is (0 ∷ 1 ∷ []) ∷
     scaled 54 1 is (0 ∷ 6 ∷ []) ∷
     bytes 53 2 (after 54 0 (with 46 0)) is (0x01 ∷ 0x00 ∷ []) ∷
-    -- no other field is raised
+    -- their neighbours are not raised
     scaled 52 0 is (0 ∷ 0 ∷ []) ∷
     scaled 53 0 is (0 ∷ 0 ∷ []) ∷
     scaled 59 0 is (0 ∷ 0 ∷ []) ∷

@@ -1,1 +1,2 @@
-// The bench cases of document 01 and the boxes that it shuts out, held against the definitions of the crates below; no code.
+// Document 01's marked cases, those of later requests, and the boxes that are shut out, held against the definitions of
+// the crates below; no code.

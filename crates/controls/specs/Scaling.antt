@@ -1,4 +1,4 @@
--- "Scaling may be asked directly: it returns the formula's number and doesn't look at byte 46": the row's number, as it is stored
+-- "Scaling may be asked directly: it returns the formula's number and doesn't look at byte 46." Req 01 raises that number.
 use Prim.Native.Nat.{ℕ}
 use mathlib.Core.Bool.{cond}
 use lib.Dec.{eqb, ltb}

@@ -11,7 +11,7 @@ use Rattle.controls.specs.Formulas.{m-upper, m-lower, numberFor, mOf}
 use Rattle.controls.specs.Table.{programSize, rowOf, selected}
 use Rattle.controls.specs.Fields.{readAt}
 
--- "the smallest value within the controller's range whose formula gives the stored number": the first of `count` values from v on
+-- "the smallest value within the controller's range whose formula gives the stored number"; Req 01: "Showing a value back still takes the smallest". The first of `count` values from v on
 abbrev pub smallest : Row → ℕ → ℕ → ℕ → Reading
 smallest r stored zero v = Refused 40
 smallest r stored (suc count) v = cond (eqb (numberFor r v) stored) (Value v) (smallest r stored count (v + 1))

@@ -1,6 +1,6 @@
 // The formulas, and the way back from a stored number.
 ghost use mathlib.Core.Path.{_≡_};
-ghost use Prim.Native.Nat.{_≤_, _+_, _*_, _/_, _%_};
+ghost use Prim.Native.Nat.{_≤_, _+_};
 ghost use Rattle.controls.specs.Formulas.{numberBy, numberFor, mOf, nextFor};
 ghost use Rattle.controls.specs.Showing.{smallest, sevenBits, shownOf};
 use crate::Reading;

@@ -46,7 +46,7 @@ wholeInNumbers l = left (packed (l .answer)) (l .memory) (l .reply)
 unfoldable pub wholeNumbers : Settings → List ℕ → List ℕ → List ℕ → LeftBy ℕ
 wholeNumbers settings message memory reply = wholeInNumbers (wholeOf settings message memory reply)
 
--- "Scaling may be asked directly: it returns the formula's number"
+-- "Scaling may be asked directly"
 unfoldable pub scaleNumber : ℕ → ℕ → ℕ
 scaleNumber controller value = said (scaleOf controller value)
 

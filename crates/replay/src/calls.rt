@@ -103,7 +103,7 @@ fn take(
     )
 }
 
-// The number of the controller's formula for a value.
+// What scaling the controller gives for a value.
 pub(crate) fn scale(desk: Desk, value: u32) -> Desk {
     print::value(
         b'K',
