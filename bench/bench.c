@@ -264,6 +264,10 @@ int main(int words, char **unused)
     (void)unused;
     make_dump();
     make_moves();
+    if (!panel_agrees()) {
+        printf("a value is scaled or shown back otherwise by the plain side\n");
+        return 1;
+    }
     uint32_t agreed = agree(&boxes[0], &boxes[1], AGREED);
     printf("# %u random calls answered alike by both, buffers and receivers too\n", agreed);
     if (agreed != AGREED || words > 1)

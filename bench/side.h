@@ -45,9 +45,11 @@ static inline int same_box(const box *a, const box *b)
            same(a->receive, b->receive, sizeof a->receive) && same(a->reply, b->reply, sizeof a->reply);
 }
 
-/* Scales every value and shows back the shared fields on both sides, then calls both with the same random calls,
- * refused ones too, and compares all that is left. Returns how many random calls agreed; less than `calls` where
- * anything did not. */
+/* Whether both sides scale every value alike, and show the shared fields back alike. */
+int panel_agrees(void);
+
+/* Calls both sides with the same random calls, refused ones too, and compares all that is left. Returns how many calls
+ * agreed; less than `calls` where one did not. */
 uint32_t agree(box *library, box *plain, uint32_t calls);
 
 #endif

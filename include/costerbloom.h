@@ -63,8 +63,8 @@ uint64_t costerbloom_whole(const uint8_t *message, size_t message_length,
 uint32_t costerbloom_scale(uint32_t controller, uint32_t value);
 
 /* The smallest value of a controller that gives what its bytes of the edit buffer hold: the value, at most 127, or
- * 65536 + the refusal, 30, 17 or 19 as above, or 40 where no value gives it, as below the least numbers above. `memory`
- * is all of it, as for the others. */
+ * 65536 + the refusal, 30, 17 or 19 as above, or 40 where no value gives it: a dump can bring any number, one below a
+ * least number too. `memory` is all of it, as for the others. */
 uint32_t costerbloom_back(const uint8_t *memory, size_t memory_length, uint32_t controller);
 
 #ifdef __cplusplus

@@ -47,16 +47,16 @@ m-of-six stored m h e = omega arith
 abbrev pub Gives : Row → ℕ → ℕ → Type 0
 Gives r stored v = nextFor r v stored ≡ stored
 
-pub record Least (r : Row) (stored w : ℕ) : Type 0 where
+pub record Smallest (r : Row) (stored w : ℕ) : Type 0 where
   pub within : w ≤ r .highest
   pub gives : Gives r stored w
-  pub least : (u : ℕ) → u < w → Gives r stored u → ⊥
+  pub none-smaller : (u : ℕ) → u < w → Gives r stored u → ⊥
 
 abbrev pub NoneGives : Row → ℕ → Type 0
 NoneGives r stored = (v : ℕ) → v ≤ r .highest → Gives r stored v → ⊥
 
 abbrev pub Shown : Row → ℕ → Reading → Type 0
-Shown r stored answer = ((w : ℕ) × (answer ≡ Value w) × Least r stored w) ⊎ ((answer ≡ Refused 40) × NoneGives r stored)
+Shown r stored answer = ((w : ℕ) × (answer ≡ Value w) × Smallest r stored w) ⊎ ((answer ≡ Refused 40) × NoneGives r stored)
 
 -- seven bits of m that a value replaces: `new v` is m with v in their place
 module _ (r : Row) (stored bits : ℕ) (new : ℕ → ℕ) (low : r .highest ≤ 127) (next : (v : ℕ) → nextFor r v stored ≡ 6 * new v) where
@@ -71,7 +71,7 @@ module _ (r : Row) (stored bits : ℕ) (new : ℕ → ℕ) (low : r .highest ≤
         record {
           within = within;
           gives = next bits ∙ (rw same (sym six));
-          least = λ u l g. let e = sym (next u) ∙ g in let is-bits = other u (omega arith) in omega arith;
+          none-smaller = λ u l g. let e = sym (next u) ∙ g in let is-bits = other u (omega arith) in omega arith;
         },
       ))
       (λ t. inr (
@@ -87,7 +87,7 @@ module _ (r : Row) (stored : ℕ) (low : r .highest ≤ 127) where
   plain t u =
       let next : (v : ℕ) → nextFor r v stored ≡ numberFor r v = λ v. next-plain r v stored t u in
       ⊎-elim
-      (λ s. inl (s .0, s .1, record { within = omega (arith, s .2 .to); gives = next (s .0) ∙ s .2 .gives; least = λ v l g. s .2 .least v (omega arith) l (sym (next v) ∙ g) }))
+      (λ s. inl (s .0, s .1, record { within = omega (arith, s .2 .to); gives = next (s .0) ∙ s .2 .gives; none-smaller = λ v l g. s .2 .none-smaller v (omega arith) l (sym (next v) ∙ g) }))
       (λ s. inr (s .0, λ v h g. s .1 v (omega arith) (omega arith) (sym (next v) ∙ g)))
       (searched r stored (r .highest + 1) 0)
 

@@ -20,7 +20,7 @@ use Rattle.controls.specs.Applying.{left, store, applyOf}
 use Rattle.controls.specs.Showing.{shownOf, backOf}
 use Rattle.controls.proofs.Bytes.{above, length-put, put-outside, read-put, put-read}
 use Rattle.controls.proofs.Rows.{row-sane, whole-upper, whole-lower, number-room, shared-beyond}
-use Rattle.controls.proofs.Back.{Least, NoneGives, Shown, shown, next-upper, next-lower, next-plain, which-formula, m-small, gives-again}
+use Rattle.controls.proofs.Back.{Smallest, NoneGives, Shown, shown, next-upper, next-lower, next-plain, which-formula, m-small, gives-again}
 use Rattle.controls.proofs.Controllers.{Open, applied}
 
 -- the number that stands in a controller's bytes
@@ -50,11 +50,11 @@ row-shown : (controller number : ℕ) → Shown (rowOf controller) number (shown
 row-shown controller number = shown (rowOf controller) number (row-sane controller .low) (λ t. whole-upper controller t .0) (λ t. whole-lower controller t .0)
 
 -- What is shown is the smallest value that gives the stored number.
-pub shown-least : (controller : ℕ) (edit : List ℕ) (value : ℕ) → backOf controller edit ≡ Value value
-    → Open controller edit × Least (rowOf controller) (stored controller edit) value
-shown-least controller edit value =
+pub shown-smallest : (controller : ℕ) (edit : List ℕ) (value : ℕ) → backOf controller edit ≡ Value value
+    → Open controller edit × Smallest (rowOf controller) (stored controller edit) value
+shown-smallest controller edit value =
     let r = rowOf controller in
-    let Goal : Reading → Type 0 = λ x. x ≡ Value value → Open controller edit × Least r (stored controller edit) value in
+    let Goal : Reading → Type 0 = λ x. x ≡ Value value → Open controller edit × Smallest r (stored controller edit) value in
     let never : (number : ℕ) → Goal (Refused number) = λ number e. let z : _≡_ {A = ℕ} 0 1 = cc in absurd (omega arith) in
     back-cases controller edit Goal (never 30) (never 17) (never 19)
     (λ o e. ⊎-elim
@@ -96,7 +96,7 @@ pub shown-applied : (controller : ℕ) (edit : List ℕ) (value : ℕ) → allAt
 unfolding store
 shown-applied controller edit value bytes e =
     let r = rowOf controller in
-    let s = shown-least controller edit value e in
+    let s = shown-smallest controller edit value e in
     applied controller value edit (s .0) (s .1 .within)
     ∙ ap (left change.Applied) (rw (s .1 .gives) (put-read (r .width) (r .place) edit bytes))
 
@@ -145,13 +145,13 @@ module _ (controller value : ℕ) (edit : List ℕ) (o : Open controller edit) (
   }
 
   -- Applied, then shown back, gives the smallest value with the same stored number.
-  pub applied-shown : (w : ℕ) × (backOf controller after ≡ Value w) × Least (rowOf controller) next w × (w ≤ value)
+  pub applied-shown : (w : ℕ) × (backOf controller after ≡ Value w) × Smallest (rowOf controller) next w × (w ≤ value)
   applied-shown =
       let r = rowOf controller in
       let low = row-sane controller .low in
       let gives = gives-again r value (stored controller edit) (omega arith) in
       let back : backOf controller after ≡ shownOf r next = rw (← stored-after) (back-open controller after still-open) in
       ⊎-elim
-      (λ s. let not-more : value < s .0 → ⊥ = λ l. s .2 .least value l gives in (s .0, back ∙ s .1, s .2, omega arith))
+      (λ s. let not-more : value < s .0 → ⊥ = λ l. s .2 .none-smaller value l gives in (s .0, back ∙ s .1, s .2, omega arith))
       (λ s. absurd (s .1 value h gives))
       (row-shown controller next)

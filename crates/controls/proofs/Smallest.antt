@@ -36,7 +36,7 @@ pub record First (r : Row) (stored count v w : ℕ) : Type 0 where
   pub from : v ≤ w
   pub to : w < v + count
   pub gives : numberFor r w ≡ stored
-  pub least : (u : ℕ) → v ≤ u → u < w → numberFor r u ≡ stored → ⊥
+  pub none-smaller : (u : ℕ) → v ≤ u → u < w → numberFor r u ≡ stored → ⊥
 
 abbrev pub None : Row → ℕ → ℕ → ℕ → Type 0
 None r stored count v = (u : ℕ) → v ≤ u → u < v + count → numberFor r u ≡ stored → ⊥
@@ -48,7 +48,7 @@ Searched r stored count v answer =
 
 module _ (r : Row) (stored : ℕ) where
   here : (count v : ℕ) → numberFor r v ≡ stored → First r stored (suc count) v v
-  here count v e = record { from = omega arith; to = omega arith; gives = e; least = λ u l h q. omega arith }
+  here count v e = record { from = omega arith; to = omega arith; gives = e; none-smaller = λ u l h q. omega arith }
 
   -- what is not v is at least v + 1
   beyond : (v u : ℕ) → (numberFor r v ≡ stored → ⊥) → v ≤ u → numberFor r u ≡ stored → v + 1 ≤ u
@@ -61,7 +61,7 @@ module _ (r : Row) (stored : ℕ) where
     from = omega (arith, f .from);
     to = omega (arith, f .to);
     gives = f .gives;
-    least = λ u l h q. f .least u (beyond v u not-here l q) h q;
+    none-smaller = λ u l h q. f .none-smaller u (beyond v u not-here l q) h q;
   }
 
   nowhere : (count v : ℕ) → (numberFor r v ≡ stored → ⊥) → None r stored count (v + 1) → None r stored (suc count) v

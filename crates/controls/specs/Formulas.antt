@@ -56,7 +56,7 @@ numberBy formula v =
     (cond (eqb formula v×25) (v * 25)
     0)))))))))
 
--- Req 01, "After the formula, 51 is raised to at least 200, 58 to at least 150 and 54 to at least 1": a row's number for v
+-- a row's number for v; Req 01: "After the formula" it "is raised to at least" the row's least number
 unfoldable pub numberFor : Row → ℕ → ℕ
 numberFor r v = max (numberBy (r .formula) v) (r .least)
 

@@ -35,7 +35,7 @@ rotary = 4
 abbrev pub tremolo : ℕ
 tremolo = 5
 
--- the first byte of the field, its bytes, the formula, the least number (Req 01), the highest value, the effect that must be selected
+-- the first byte of the field, its bytes, the formula, the least number, the highest value, the effect that must be selected
 abbrev pub rowAs : ℕ → ℕ → ℕ → ℕ → ℕ → ℕ → Row
 rowAs place width formula least highest effect =
     record { place = place; width = width; formula = formula; least = least; highest = highest; effect = effect }
@@ -53,7 +53,7 @@ pub record Sane (r : Row) : Type 0 where
   pub narrow : r .width ≤ 3
   pub low : r .highest ≤ 127
 
--- "a pair c>b is controller and byte"
+-- "a pair c>b is controller and byte"; Req 01: "51 is raised to at least 200, 58 to at least 150 and 54 to at least 1", and 0 raises nothing
 unfoldable pub rows : List (Entry Row)
 rows =
     row 25 0 1 v/64 0 127 none ∷

@@ -42,8 +42,8 @@ fn row(place: u8, width: u8, formula: u8, least: u8, highest: u8, effect: u8) ->
     }
 }
 
-// The row of a controller: the first byte of its field, the bytes, the formula, the least number, the
-// highest value, the effect.
+// The row of a controller: the first byte of its field, the bytes, the formula, the least number, the highest value,
+// the effect.
 pub fn row_of(controller: u32) -> Row
     ensures { λ r. ⌜ r ≡ rowOf controller ⌝ }
 {

@@ -15,7 +15,7 @@ use Rattle.controls.specs.Table.{rowOf}
 use Rattle.controls.specs.Scaling.{scaleOf}
 use Rattle.controls.specs.Showing.{backOf}
 use Rattle.controls.proofs.Rows.{row-sane, number-low}
-use Rattle.controls.proofs.RoundTrips.{shown-least}
+use Rattle.controls.proofs.RoundTrips.{shown-smallest}
 use Rattle.framing.specs.declared.Receiver.{Receiver}
 use Rattle.sockets.specs.Framer.{SysEx}
 use Rattle.sysex.specs.declared.Settings.{Settings}
@@ -91,7 +91,7 @@ scale-apart controller value =
 
 shown-apart : (controller : ℕ) (edit : List ℕ) (x : Reading) → backOf controller edit ≡ x → Apart x (said x)
 unfolding said
-shown-apart controller edit (reading.Value value) e = let low = row-sane controller .low in let within = shown-least controller edit value e .1 .within in (refl, omega arith)
+shown-apart controller edit (reading.Value value) e = let low = row-sane controller .low in let within = shown-smallest controller edit value e .1 .within in (refl, omega arith)
 shown-apart controller edit (reading.Refused number) e = refl
 
 pub back-apart : (controller : ℕ) (memory : List ℕ) → Apart (memoryBack controller memory) (backNumber controller memory)
