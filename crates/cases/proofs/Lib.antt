@@ -1,4 +1,5 @@
 pub mod Case
 pub mod Marked
 pub mod Raised
+pub mod Why
 pub mod ShutOut

@@ -13,15 +13,14 @@ use Rattle.controls.specs.Showing.{shownOf, backOf}
 use Rattle.framing.specs.declared.Receiver.{Receiver}
 use Rattle.framing.specs.Receiver.{fresh, soundOf, isWritten, countRight, runningRight, waitingRight, longIsFull, takesOne, takesTwo}
 use Rattle.framing.specs.Bytes.{stepOf}
-use Rattle.sysex.specs.declared.Settings.{Settings}
 use Rattle.sysex.specs.Numbers as box
 use Rattle.sysex.specs.Forms.{bodyLength, isIdentity}
-use Rattle.sysex.specs.Judging.{hasProgram, testsOf, orderOf, judgeOf}
+use Rattle.sysex.specs.Judging.{hasForm, hasProgram, furtherTests, bodyOrder, orderOf, judgeOf}
 use Rattle.sysex.specs.Carrying.{orderDoes}
 use Rattle.sysex.specs.Formats.{One}
-use Rattle.podbox.specs.Settings.{isValid}
+use Rattle.podbox.specs.Settings.{isValid, freshSettings, freshMemory}
 use Rattle.podbox.specs.Messages.{isHeard, isController, carry}
-use Rattle.podbox.specs.Whole.{isFramed, wholeOf}
+use Rattle.podbox.specs.Whole.{isFramed, messageOrder, wholeOf}
 use Rattle.podbox.specs.Take.{stepDoes, readyDoes, takeOf}
 use Rattle.podbox.proofs.WholeMessages.{dumpMessage, requestMessage}
 use Rattle.cases.proofs.Case.{Case, _is_, Given, scaled, shown, with, after, bytes}
@@ -33,24 +32,21 @@ travels byte = split (byte ∷ [])
 reads : List ℕ → List ℕ
 reads halves = let l = joinInto halves (0 ∷ []) in numberOf (l .answer) ∷ l .buffer
 
--- a fresh box, set as the listing program's: the number of each byte of a run on socket 0, and of a message that is handed over whole
-unfoldable pub settings : Settings
-settings = record { channel = 0; omni = 0; revision0 = 0x30; revision1 = 0x31; revision2 = 0x30; revision3 = 0x30 }
-
 unfoldable pub zeros : ℕ → List ℕ
 zeros count = replicate count 0
 
+-- a fresh box, set as the listing program's: the number of each byte of a run on socket 0, and of a message that is handed over whole
 run : List ℕ → Receiver → List ℕ → List ℕ → List ℕ → List ℕ
 run [] receiver memory receive reply = []
 run (byte ∷ bytes) receiver memory receive reply =
-    let l = takeOf settings 0 receiver byte memory receive reply in
+    let l = takeOf freshSettings 0 receiver byte memory receive reply in
     box.numberOf (l .answer) ∷ run bytes (l .receiver) (l .memory) (l .receive) (l .reply)
 
 called : List ℕ → List ℕ
-called bytes = run bytes fresh (zeros 2664) (zeros 5193) (zeros 5193)
+called bytes = run bytes fresh freshMemory (zeros 5193) (zeros 5193)
 
 handed : List ℕ → List ℕ
-handed message = box.numberOf (wholeOf settings message (zeros 2664) (zeros 5193) .answer) ∷ []
+handed message = box.numberOf (wholeOf freshSettings message freshMemory (zeros 5193) .answer) ∷ []
 
 pub marked : List Case
 marked =
@@ -100,5 +96,5 @@ marked =
     []
 
 pub as-the-paper-says : Given marked
-unfolding marked travels reads joinInto scaleOf applyOf store backOf shownOf numberBy numberFor mOf nextFor rowOf rows effectOf selections selected settings zeros run called handed soundOf isWritten countRight runningRight waitingRight longIsFull takesOne takesTwo stepOf bodyLength isIdentity hasProgram testsOf orderOf judgeOf orderDoes isValid isHeard isController carry isFramed wholeOf stepDoes readyDoes takeOf
+unfolding marked travels reads joinInto scaleOf applyOf store backOf shownOf numberBy numberFor mOf nextFor rowOf rows effectOf selections selected freshSettings freshMemory zeros run called handed soundOf isWritten countRight runningRight waitingRight longIsFull takesOne takesTwo stepOf bodyLength isIdentity hasForm hasProgram furtherTests bodyOrder orderOf judgeOf orderDoes isValid isHeard isController carry isFramed messageOrder wholeOf stepDoes readyDoes takeOf
 as-the-paper-says = refl

@@ -18,18 +18,18 @@ use Rattle.sockets.specs.Demand.{Fresh}
 use Rattle.sysex.specs.declared.Settings.{Settings}
 use Rattle.sysex.specs.Numbers.{numberOf}
 use Rattle.sysex.specs.Forms.{bodyLength, isIdentity}
-use Rattle.sysex.specs.Judging.{hasProgram, testsOf, orderOf, judgeOf}
+use Rattle.sysex.specs.Judging.{hasForm, hasProgram, furtherTests, bodyOrder, orderOf, judgeOf}
 use Rattle.sysex.specs.Carrying.{orderDoes}
-use Rattle.podbox.specs.Settings.{isValid}
+use Rattle.podbox.specs.Settings.{isValid, freshSettings, freshMemory}
 use Rattle.podbox.specs.Messages.{isHeard, isController, carry}
 use Rattle.podbox.specs.Take.{TookByte, stepDoes, readyDoes, takeOf}
 use Rattle.podbox.specs.Box.{State, stateOf, boxRules}
 use Rattle.podbox.proofs.Sockets.{box-demand3}
-use Rattle.cases.proofs.Marked.{settings, zeros}
+use Rattle.cases.proofs.Marked.{zeros}
 
--- a memory and a buffer of zeros, as long as is asked
+-- a fresh memory and a buffer of zeros, as long as is asked
 abbrev memory : List ℕ
-memory = zeros 2664
+memory = freshMemory
 
 abbrev empty : List ℕ
 empty = zeros 5193
@@ -57,40 +57,40 @@ module _ (box : Settings → ℕ → Receiver → ℕ → List ℕ → List ℕ 
 
   -- a box that refuses everything: it must take F8
   pub refuses-everything : Always (λ m reply l. 10 ≤ numberOf (l .answer)) → ⊥
-  unfolding settings zeros soundOf isWritten countRight runningRight waitingRight longIsFull takesOne takesTwo stepOf isValid stepDoes readyDoes takeOf
+  unfolding freshSettings freshMemory zeros soundOf isWritten countRight runningRight waitingRight longIsFull takesOne takesTwo stepOf isValid stepDoes readyDoes takeOf
   refuses-everything bad =
-      let e : numberOf (box settings 0 fresh 0xF8 memory empty empty .answer) ≡ 0 = ap (λ (l : TookByte). numberOf (l .answer)) (keeps settings 0 fresh 0xF8 memory empty empty) in
-      absurd (omega (arith, e, bad settings 0 fresh 0xF8 memory empty empty))
+      let e : numberOf (box freshSettings 0 fresh 0xF8 memory empty empty .answer) ≡ 0 = ap (λ (l : TookByte). numberOf (l .answer)) (keeps freshSettings 0 fresh 0xF8 memory empty empty) in
+      absurd (omega (arith, e, bad freshSettings 0 fresh 0xF8 memory empty empty))
 
   -- a box that returns 0 for every byte: C0 cuts an open SysEx
   pub returns-zero : Always (λ m reply l. numberOf (l .answer) ≡ 0) → ⊥
-  unfolding settings zeros asking soundOf isWritten countRight runningRight waitingRight longIsFull takesOne takesTwo stepOf isValid stepDoes readyDoes takeOf
+  unfolding freshSettings freshMemory zeros asking soundOf isWritten countRight runningRight waitingRight longIsFull takesOne takesTwo stepOf isValid stepDoes readyDoes takeOf
   returns-zero bad =
-      let e : numberOf (box settings 0 asking 0xC0 memory empty empty .answer) ≡ 4 = ap (λ (l : TookByte). numberOf (l .answer)) (keeps settings 0 asking 0xC0 memory empty empty) in
-      absurd (omega (arith, e, bad settings 0 asking 0xC0 memory empty empty))
+      let e : numberOf (box freshSettings 0 asking 0xC0 memory empty empty .answer) ≡ 4 = ap (λ (l : TookByte). numberOf (l .answer)) (keeps freshSettings 0 asking 0xC0 memory empty empty) in
+      absurd (omega (arith, e, bad freshSettings 0 asking 0xC0 memory empty empty))
 
   -- a box that never writes memory: controller 12 at 27 must stand in byte 8
   pub never-writes : Always (λ m reply l. l .memory ≡ m) → ⊥
-  unfolding settings zeros moving soundOf isWritten countRight runningRight waitingRight longIsFull takesOne takesTwo stepOf isValid stepDoes readyDoes takeOf isHeard isController carry applyOf store rowOf rows numberBy numberFor nextFor effectOf selections selected
+  unfolding freshSettings freshMemory zeros moving soundOf isWritten countRight runningRight waitingRight longIsFull takesOne takesTwo stepOf isValid stepDoes readyDoes takeOf isHeard isController carry applyOf store rowOf rows numberBy numberFor nextFor effectOf selections selected
   never-writes bad =
-      let e : model (box settings 0 moving 27 memory empty empty .memory) ≡ 27 = ap (λ (l : TookByte). model (l .memory)) (keeps settings 0 moving 27 memory empty empty) in
-      let b : model (box settings 0 moving 27 memory empty empty .memory) ≡ 0 = ap (λ (m : List ℕ). model m) (bad settings 0 moving 27 memory empty empty) in
+      let e : model (box freshSettings 0 moving 27 memory empty empty .memory) ≡ 27 = ap (λ (l : TookByte). model (l .memory)) (keeps freshSettings 0 moving 27 memory empty empty) in
+      let b : model (box freshSettings 0 moving 27 memory empty empty .memory) ≡ 0 = ap (λ (m : List ℕ). model m) (bad freshSettings 0 moving 27 memory empty empty) in
       absurd (omega (arith, e, b))
 
   -- a box that reports a reply length it did not write: the dump of the edit buffer begins with F0
   pub writes-no-reply : Always (λ m reply l. l .reply ≡ reply) → ⊥
-  unfolding settings zeros asking request soundOf isWritten countRight runningRight waitingRight longIsFull takesOne takesTwo stepOf isValid stepDoes readyDoes takeOf carry bodyLength isIdentity hasProgram testsOf orderOf judgeOf orderDoes
+  unfolding freshSettings freshMemory zeros asking request soundOf isWritten countRight runningRight waitingRight longIsFull takesOne takesTwo stepOf isValid stepDoes readyDoes takeOf carry bodyLength isIdentity hasForm hasProgram furtherTests bodyOrder orderOf judgeOf orderDoes
   writes-no-reply bad =
-      let e : getD (box settings 0 asking 0xF7 memory request empty .reply) 0 0 ≡ 0xF0 = ap (λ (l : TookByte). getD (l .reply) 0 0) (keeps settings 0 asking 0xF7 memory request empty) in
-      let b : getD (box settings 0 asking 0xF7 memory request empty .reply) 0 0 ≡ 0 = ap (λ (m : List ℕ). getD m 0 0) (bad settings 0 asking 0xF7 memory request empty) in
+      let e : getD (box freshSettings 0 asking 0xF7 memory request empty .reply) 0 0 ≡ 0xF0 = ap (λ (l : TookByte). getD (l .reply) 0 0) (keeps freshSettings 0 asking 0xF7 memory request empty) in
+      let b : getD (box freshSettings 0 asking 0xF7 memory request empty .reply) 0 0 ≡ 0 = ap (λ (m : List ℕ). getD m 0 0) (bad freshSettings 0 asking 0xF7 memory request empty) in
       absurd (omega (arith, e, b))
 
 -- a box that acts on the first finished message and only numbers the later ones: after controller 12 at 27 and at 5, byte 8 is 5
-pub first-alone : (w v : WorldOf (boxRules settings)) (answers : AnswersOf (boxRules settings)) → Fresh (boxRules settings) w → w .store ≡ stateOf memory
-    → History (boxRules settings) w (feed S0 (0xB0 ∷ 12 ∷ 27 ∷ 12 ∷ 5 ∷ [])) v answers → v .store ≡ stateOf (carry settings memory (Channel 0xB0 12 27) .memory) → ⊥
-unfolding settings zeros hears finishes takesOne isHeard isController carry applyOf store rowOf rows numberBy numberFor nextFor effectOf selections selected
+pub first-alone : (w v : WorldOf (boxRules freshSettings)) (answers : AnswersOf (boxRules freshSettings)) → Fresh (boxRules freshSettings) w → w .store ≡ stateOf memory
+    → History (boxRules freshSettings) w (feed S0 (0xB0 ∷ 12 ∷ 27 ∷ 12 ∷ 5 ∷ [])) v answers → v .store ≡ stateOf (carry freshSettings memory (Channel 0xB0 12 27) .memory) → ⊥
+unfolding freshSettings freshMemory zeros hears finishes takesOne isHeard isController carry applyOf store rowOf rows numberBy numberFor nextFor effectOf selections selected
 first-alone w v answers new e history bad =
-    let d = box-demand3 settings w v (feed S0 (0xB0 ∷ 12 ∷ 27 ∷ 12 ∷ 5 ∷ [])) answers new history .store in
+    let d = box-demand3 freshSettings w v (feed S0 (0xB0 ∷ 12 ∷ 27 ∷ 12 ∷ 5 ∷ [])) answers new history .store in
     let five : model (v .store .memory) ≡ 5 = ap (λ (state : State). model (state .memory)) (rw e at d) in
     let first : model (v .store .memory) ≡ 27 = ap (λ (state : State). model (state .memory)) bad in
     absurd (omega (arith, five, first))

@@ -17,7 +17,6 @@ use Rattle.controls.specs.Showing.{backOf}
 use Rattle.controls.proofs.Rows.{row-sane, number-low}
 use Rattle.controls.proofs.RoundTrips.{shown-smallest}
 use Rattle.framing.specs.declared.Receiver.{Receiver}
-use Rattle.sockets.specs.Framer.{SysEx}
 use Rattle.sysex.specs.declared.Settings.{Settings}
 use Rattle.sysex.specs.declared.Answer.{Answer}
 use Rattle.sysex.specs.Memory.{memorySize, editPlace, partOf}
@@ -25,9 +24,9 @@ use Rattle.sysex.specs.Forms.{longest}
 use Rattle.sysex.specs.Numbers.{numberOf, lengthOf}
 use Rattle.sysex.specs.Carrying.{Outcome, Left}
 use Rattle.podbox.specs.Settings.{size, isValid}
-use Rattle.podbox.specs.Whole.{isFramed, bodyOf, wholeOf}
+use Rattle.podbox.specs.Whole.{wholeOf}
 use Rattle.podbox.specs.Take.{takeOf}
-use Rattle.podbox.proofs.Carried.{Tame, stores, sends, applies, refuses, carry-tame}
+use Rattle.podbox.proofs.Carried.{Tame, stores, sends, applies, refuses, message-tame}
 use Rattle.podbox.proofs.EveryByte.{InTable, every-byte}
 use Rattle.costerbloom.specs.Numbers.{packed, said, takeNumbers, wholeNumbers, scaleNumber, memoryBack, backNumber}
 
@@ -64,13 +63,11 @@ pub whole-told : (settings : Settings) (message memory reply : List ℕ)
 unfolding wholeNumbers wholeOf
 whole-told settings message memory reply =
     let P : Left → Type 0 = λ l. Small (l .answer) in
-    let Q : Outcome → Type 0 = λ o. Small (o .answer) in
     told _
     (by P (ltb (length memory) (memorySize size)) _ _ (λ _. (omega arith, omega arith))
     (λ m. by P (ltb (length reply) (longest size)) _ _ (λ _. (omega arith, omega arith))
     (λ _. by P (isValid settings) _ _
-    (λ _. by Q (ltb (longest size) (length message)) _ _ (λ _. (omega arith, omega arith))
-    (λ _. by Q (isFramed message) _ _ (λ _. tame-small memory _ (carry-tame settings memory (ltb-false _ _ m) (SysEx (bodyOf message)))) (λ _. (omega arith, omega arith))))
+    (λ _. tame-small memory _ (message-tame settings memory (ltb-false _ _ m) message))
     (λ _. (omega arith, omega arith)))))
 
 -- "a value is told apart from a refusal number"

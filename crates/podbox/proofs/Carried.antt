@@ -3,6 +3,7 @@ use Prim.Native.Nat.{ℕ, _≤_}
 use mathlib.Core.List.{List, []}
 use mathlib.Core.Path.{_≡_, _∙_}
 use native.Mathlib.Omega.{arith}
+use lib.Dec.{ltb}
 use lib.ListN.{length, drop, length-take, length-drop, take-append-drop}
 use Rattle.ground.proofs.Tests.{by}
 use Rattle.halves.specs.HalfBytes.{join}
@@ -15,13 +16,17 @@ use Rattle.sysex.specs.declared.Order.{Order}
 use Rattle.sysex.specs.declared.Answer.the-variants.{Stored, Sent, Applied, Refused}
 use Rattle.sysex.specs.Memory.{memorySize, editPlace, partOf, putPart}
 use Rattle.sysex.specs.Forms.{dataPlace, longest, identityOf}
+use Rattle.sysex.specs.Numbers.{checkNumber}
 use Rattle.sysex.specs.Judging.{judgeOf}
 use Rattle.sysex.specs.Carrying.{Outcome, outcome, orderDoes}
 use Rattle.sysex.specs.Formats.{typeFor, placeFor, countFor}
 use Rattle.sysex.proofs.Stored.{put-length}
+use Rattle.sysex.proofs.InOrder.{check-number}
 use Rattle.sysex.proofs.Understands.{Meant, identity, asked, dumped, refused, meant}
 use Rattle.podbox.specs.Settings.{size}
 use Rattle.podbox.specs.Messages.{isHeard, isController, answerOf, controllerDoes, carry}
+use Rattle.podbox.specs.Whole.{isFramed, bodyOf, messageDoes}
+use Rattle.podbox.proofs.Orders.{message-does}
 use Rattle.podbox.proofs.WholeMessages.{store-does, send-does, dumpMessage, dump-fits, named-inside}
 
 -- an outcome: 1 and 3 keep the length of memory and send nothing, 2 sends no more than the longest message and keeps memory, a refusal from 10 to 22 does nothing
@@ -46,7 +51,7 @@ module _ (settings : Settings) (memory : List ℕ) (m : memorySize size ≤ leng
   order-tame body o (dumped t d) =
       let inside = named-inside t (d .there) in
       rw (store-does settings t body memory) (stores _ (put-length (placeFor size t) (countFor size t) (join (drop (dataPlace (typeFor t)) body)) memory (omega arith) (d .count)))
-  order-tame body o (refused number lo hi) = refuses number (omega arith) hi
+  order-tame body o (refused check) = let n = check-number check in refuses (checkNumber check) (n .0) (n .1)
 
   controller-tame : (controller value : ℕ) → Tame memory (controllerDoes controller value memory)
   controller-tame controller value =
@@ -66,3 +71,9 @@ module _ (settings : Settings) (memory : List ℕ) (m : memorySize size ≤ leng
       by (Tame memory) (isHeard settings status) _ _
       (λ _. by (Tame memory) (isController status) _ _ (λ _. controller-tame first second) (λ _. refuses 21 (omega arith) (omega arith)))
       (λ _. refuses 20 (omega arith) (omega arith))
+
+  -- the same of a message that is handed over whole
+  pub message-tame : (message : List ℕ) → Tame memory (messageDoes settings message memory)
+  message-tame message = rw (message-does settings message memory)
+      (by (Tame memory) (ltb (longest size) (length message)) _ _ (λ _. refuses 10 (omega arith) (omega arith))
+      (λ _. by (Tame memory) (isFramed message) _ _ (λ _. carry-tame (SysEx (bodyOf message))) (λ _. refuses 11 (omega arith) (omega arith))))

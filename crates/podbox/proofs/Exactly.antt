@@ -17,14 +17,17 @@ use Rattle.sysex.specs.declared.Order.{Order}
 use Rattle.sysex.specs.declared.Answer.the-variants.{Stored, Sent, Refused}
 use Rattle.sysex.specs.Memory.{memorySize, partOf, putPart}
 use Rattle.sysex.specs.Forms.{longest, dataPlace, identityOf, isOurs}
+use Rattle.sysex.specs.Numbers.{checkNumber}
 use Rattle.sysex.specs.Judging.{judgeOf}
 use Rattle.sysex.specs.Carrying.{Outcome, Left, left, leaves, orderDoes}
 use Rattle.sysex.specs.Formats.{Target, There, typeFor, placeFor, countFor}
+use Rattle.sysex.proofs.InOrder.{check-number}
 use Rattle.sysex.proofs.Understands.{Meant, identity, asked, dumped, refused, meant}
 use Rattle.podbox.specs.Settings.{size, isValid}
 use Rattle.podbox.specs.Messages.{carry}
 use Rattle.podbox.specs.Whole.{isFramed, bodyOf, wholeOf}
 use Rattle.podbox.proofs.Frames.{frame-body, framed-is}
+use Rattle.podbox.proofs.Orders.{message-does}
 use Rattle.podbox.proofs.WholeMessages.{store-does, send-does, dumpMessage, requestMessage, identityMessage, handed}
 
 -- a message is a dump of these bytes to this place
@@ -59,7 +62,7 @@ module _ (settings : Settings) (message memory reply : List ℕ) (P : Left → T
   by-order body e o (dumped t d) =
       rw (store-does settings t body memory)
       (when-stored t (join (drop (dataPlace (typeFor t)) body)) (record { there = d .there; count = d .count; whole-bytes = d .whole-bytes; form = e ∙ ap (λ (b : List ℕ). b ++ (0xF7 ∷ [])) (d .form) }))
-  by-order body e o (refused number lo hi) = when-refused number (omega arith) hi
+  by-order body e o (refused check) = let n = check-number check in when-refused (checkNumber check) (n .0) (n .1)
 
   by-frame : isFramed message ≡ true → P (leaves (carry settings memory (SysEx (bodyOf message))) reply)
   unfolding carry
@@ -71,7 +74,7 @@ module _ (settings : Settings) (message memory reply : List ℕ) (P : Left → T
 
   pub by-message : memorySize size ≤ length memory → longest size ≤ length reply → isValid settings ≡ true → P (wholeOf settings message memory reply)
   by-message m r v =
-      rw (handed settings memory reply m r v message)
+      rw (handed settings memory reply m r v message, message-does settings message memory)
       (by (λ (o : Outcome). P (leaves o reply)) (ltb (longest size) (length message)) _ _ (λ _. when-refused 10 (omega arith) (omega arith))
       (λ _. by (λ (o : Outcome). P (leaves o reply)) (isFramed message) _ _ by-frame (λ _. when-refused 11 (omega arith) (omega arith))))
 

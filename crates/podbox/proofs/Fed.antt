@@ -23,6 +23,7 @@ use Rattle.podbox.specs.Whole.{isFramed, bodyOf, messageDoes}
 use Rattle.podbox.specs.Take.{limit}
 use Rattle.podbox.specs.Box.{boxRules, outcomeOf}
 use Rattle.podbox.proofs.Frames.{frame, frame-body, frame-framed, framed-is}
+use Rattle.podbox.proofs.Orders.{message-does}
 use Rattle.podbox.proofs.Sockets.{lawful}
 
 module _ (settings : Settings) where
@@ -37,15 +38,15 @@ module _ (settings : Settings) where
       go : (t : Bool) → leb (length (0xF0 ∷ rest)) limit ≡ t → carry settings memory (closed limit (0xF0 ∷ rest)) ≡ messageDoes settings (frame rest) memory
       go true h =
           let few = leb-true (length (0xF0 ∷ rest)) limit h in
-          rw (h, le-ltb (longest size) (length (frame rest)) (omega (arith, long)), frame-framed rest low, frame-body rest)
+          rw (h, message-does settings (frame rest) memory, le-ltb (longest size) (length (frame rest)) (omega (arith, long)), frame-framed rest low, frame-body rest)
       go false h =
           let many = leb-false (length (0xF0 ∷ rest)) limit h in
-          rw (h, lt-ltb (longest size) (length (frame rest)) (omega (arith, long)))
+          rw (h, message-does settings (frame rest) memory, lt-ltb (longest size) (length (frame rest)) (omega (arith, long)))
 
   -- A message that is not framed is 10 or 11 when it is handed over; on a socket its bytes finish what they finish (`box-demand3`).
   pub not-framed : (message memory : List ℕ) → isFramed message ≡ false
       → messageDoes settings message memory ≡ cond (ltb (longest size) (length message)) (refused 10 memory) (refused 11 memory)
-  not-framed message memory e = rw e
+  not-framed message memory e = rw (message-does settings message memory, e)
 
   module _ (w v : WorldOf (boxRules settings)) (s : Socket) (answers : AnswersOf (boxRules settings)) where
     -- Whole equals byte by byte, for every message F0 .. F7 with nothing above 0x7F between, of any length: each byte before F7 is

@@ -1,8 +1,10 @@
 pub mod Frames
+pub mod Orders
 pub mod Taking
 pub mod WholeMessages
 pub mod Exactly
 pub mod Refusals
+pub mod Reasons
 pub mod Carried
 pub mod EveryByte
 pub mod Byte48

@@ -6,9 +6,10 @@ use Rattle.ground.proofs.OneResult.{one}
 use Rattle.framing.specs.declared.Receiver.{Receiver}
 use Rattle.sysex.specs.declared.Settings.{Settings}
 use Rattle.sysex.specs.declared.Answer.{Answer}
+use Rattle.sysex.specs.declared.Order.{Order}
 use Rattle.sysex.specs.Carrying.{left}
 use Rattle.sysex.proofs.OneResult.{left-one}
-use Rattle.podbox.specs.Whole.{wholeOf}
+use Rattle.podbox.specs.Whole.{reasonOf, wholeOf}
 use Rattle.podbox.specs.Take.{TookBy, took, takeOf}
 
 -- where all that stands at exit is one equation
@@ -21,6 +22,9 @@ took-one {Code} e f =
 pub whole-message-one : (settings : Settings) (message memory reply : List ℕ) (a b : Answer) (m n x y : List ℕ)
     → left a m x ≡ wholeOf settings message memory reply → left b n y ≡ wholeOf settings message memory reply → (a ≡ b) × (m ≡ n) × (x ≡ y)
 whole-message-one settings message memory reply a b m n x y = left-one
+
+pub reason-one : (message : List ℕ) (r s : Order) → r ≡ reasonOf message → s ≡ reasonOf message → r ≡ s
+reason-one message r s = one
 
 pub take-byte-one : (settings : Settings) (socket : ℕ) (receiver : Receiver) (byte : ℕ) (memory receive reply : List ℕ) (r s : Receiver) (a b : Answer) (m n x y o p : List ℕ)
     → took r a m x o ≡ takeOf settings socket receiver byte memory receive reply → took s b n y p ≡ takeOf settings socket receiver byte memory receive reply

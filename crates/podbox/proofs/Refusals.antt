@@ -1,35 +1,32 @@
 -- A message that is handed over whole is refused with a number exactly when that test fails and every earlier one holds, and then nothing changes.
 use Prim.Native.Nat.{ℕ, _≤_}
 use mathlib.Core.Bool.{Bool, true, false, cond, not}
-use mathlib.Core.List.{List, _∷_}
+use mathlib.Core.List.{List, _∷_, map}
 use mathlib.Core.Path.{_≡_, refl, sym, ap, _∙_}
 use native.Mathlib.Omega.{arith}
 use lib.Dec.{ltb}
 use lib.ListN.{length}
-use Rattle.sockets.specs.Framer.{SysEx}
 use Rattle.sysex.specs.declared.Settings.{Settings}
 use Rattle.sysex.specs.declared.Order.{Order}
+use Rattle.sysex.specs.declared.Order.the-variants as order
 use Rattle.sysex.specs.declared.Answer.{Answer}
 use Rattle.sysex.specs.declared.Answer.the-variants.{Taken, Stored, Sent, Applied, Cut, Refused}
 use Rattle.sysex.specs.Memory.{memorySize}
 use Rattle.sysex.specs.Forms.{longest}
-use Rattle.sysex.specs.Numbers.{numberOf, lengthOf}
-use Rattle.sysex.specs.Judging.{Test, test}
-use Rattle.sysex.specs.Carrying.{Outcome, refused, Left, left, leaves, orderDoes}
-use Rattle.sysex.proofs.InOrder.{FirstToFail, guard, guard-refused, guard-exactly, guard-map, judgeTests, passedOrder, judged-guard, passed-not-refused}
+use Rattle.sysex.specs.Numbers.{numberOf, lengthOf, checkNumber}
+use Rattle.sysex.specs.Judging.{Test, test, tested, bodyOrder}
+use Rattle.sysex.specs.Carrying.{Left, left, leaves, orderDoes}
+use Rattle.sysex.proofs.InOrder.{FirstToFail, tested-failed, tested-exactly, tested-map, renamed, tested-renamed, passed-done, done-not-refused}
 use Rattle.podbox.specs.Settings.{size, isValid}
-use Rattle.podbox.specs.Messages.{carry}
-use Rattle.podbox.specs.Whole.{isFramed, bodyOf, wholeOf}
+use Rattle.podbox.specs.Whole.{bodyOf, messageTests, messageOrder, wholeOf}
 
--- the tests of a call, in their order: 30, 30, 32, 10, 11, and those of the body
-abbrev pub wholeTests : Settings → List ℕ → List ℕ → List ℕ → List Test
+-- the tests of a call, in their order: 30, 30, 32, and those of the message
+abbrev pub wholeTests : Settings → List ℕ → List ℕ → List ℕ → List (Test ℕ)
 wholeTests settings message memory reply =
     test 30 (not (ltb (length memory) (memorySize size)))
     ∷ test 30 (not (ltb (length reply) (longest size)))
     ∷ test 32 (isValid settings)
-    ∷ test 10 (not (ltb (longest size) (length message)))
-    ∷ test 11 (isFramed message)
-    ∷ judgeTests size settings (bodyOf message)
+    ∷ map (renamed checkNumber) (messageTests settings message)
 
 -- an answer from 10 on is a refusal, and only number 2 has a length
 pub is-refused : (a : Answer) → 10 ≤ numberOf a → (number : ℕ) × (a ≡ Refused number)
@@ -56,15 +53,6 @@ keep : {A : Type 0} (t : Bool) (x y z : A) → y ≡ z → cond t y x ≡ cond t
 keep true x y z e = e
 keep false x y z e = refl
 
--- the same of what an outcome leaves
-leaves-flip : (reply : List ℕ) (t : Bool) (x y : Outcome) (z : Left) → leaves y reply ≡ z → leaves (cond t x y) reply ≡ cond (not t) z (leaves x reply)
-leaves-flip reply true x y z e = refl
-leaves-flip reply false x y z e = e
-
-leaves-keep : (reply : List ℕ) (t : Bool) (x y : Outcome) (z : Left) → leaves y reply ≡ z → leaves (cond t y x) reply ≡ cond t z (leaves x reply)
-leaves-keep reply true x y z e = e
-leaves-keep reply false x y z e = refl
-
 module _ (settings : Settings) (message memory reply : List ℕ) where
   abbrev refusal : ℕ → Left
   refusal number = left (Refused number) memory reply
@@ -72,30 +60,30 @@ module _ (settings : Settings) (message memory reply : List ℕ) where
   abbrev doneWith : Order → Left
   doneWith o = leaves (orderDoes size settings o (bodyOf message) memory) reply
 
-  body-guard : leaves (carry settings memory (SysEx (bodyOf message))) reply ≡ guard (judgeTests size settings (bodyOf message)) refusal (doneWith (passedOrder (bodyOf message)))
-  unfolding carry orderDoes
-  body-guard =
-      ap doneWith (judged-guard size settings (bodyOf message)) ∙ guard-map doneWith (judgeTests size settings (bodyOf message)) _ (passedOrder (bodyOf message))
+  message-tested : doneWith (messageOrder settings message)
+      ≡ tested (map (renamed checkNumber) (messageTests settings message)) refusal (doneWith (bodyOrder (bodyOf message)))
+  unfolding messageOrder orderDoes
+  message-tested =
+      tested-map doneWith (messageTests settings message) order.Refused (bodyOrder (bodyOf message))
+      ∙ sym (tested-renamed checkNumber (messageTests settings message) refusal (doneWith (bodyOrder (bodyOf message))))
 
   -- a whole message is its tests, and behind them what its body asks for
-  whole-guard : wholeOf settings message memory reply ≡ guard (wholeTests settings message memory reply) refusal (doneWith (passedOrder (bodyOf message)))
+  whole-tested : wholeOf settings message memory reply ≡ tested (wholeTests settings message memory reply) refusal (doneWith (bodyOrder (bodyOf message)))
   unfolding wholeOf
-  whole-guard =
+  whole-tested =
       flip (ltb (length memory) (memorySize size)) (refusal 30) _ _
       (flip (ltb (length reply) (longest size)) (refusal 30) _ _
-      (keep (isValid settings) (refusal 32) _ _
-      (leaves-flip reply (ltb (longest size) (length message)) (refused 10 memory) _ _
-      (leaves-keep reply (isFramed message) (refused 11 memory) _ _ body-guard))))
+      (keep (isValid settings) (refusal 32) _ _ message-tested))
 
   -- Order of tests: the number that is returned is that of the first test that fails.
   pub refused-first : (number : ℕ) → FirstToFail (wholeTests settings message memory reply) number → wholeOf settings message memory reply ≡ refusal number
-  refused-first number f = whole-guard ∙ guard-refused refusal (doneWith (passedOrder (bodyOf message))) f
+  refused-first number f = whole-tested ∙ tested-failed refusal (doneWith (bodyOrder (bodyOf message))) f
 
   pub first-refused : (number : ℕ) → wholeOf settings message memory reply .answer ≡ Refused number → FirstToFail (wholeTests settings message memory reply) number
   first-refused number e =
-      let answers = ap (λ (l : Left). l .answer) whole-guard ∙ guard-map (λ (l : Left). l .answer) (wholeTests settings message memory reply) refusal (doneWith (passedOrder (bodyOf message))) in
-      guard-exactly (wholeTests settings message memory reply) Refused _ number
-      (passed-not-refused size settings (bodyOf message) memory number)
+      let answers = ap (λ (l : Left). l .answer) whole-tested ∙ tested-map (λ (l : Left). l .answer) (wholeTests settings message memory reply) refusal (doneWith (bodyOrder (bodyOf message))) in
+      tested-exactly (wholeTests settings message memory reply) Refused _ number
+      (done-not-refused size settings (bodyOf message) memory number (bodyOrder (bodyOf message)) (passed-done (bodyOf message)))
       (λ m n q. cc)
       (sym answers ∙ e)
 

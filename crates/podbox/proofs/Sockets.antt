@@ -33,10 +33,10 @@ use Rattle.sysex.specs.Numbers.{numberOf, lengthOf}
 use Rattle.sysex.specs.Carrying.{Outcome, Left, left, leaves}
 use Rattle.podbox.specs.Settings.{size, isValid}
 use Rattle.podbox.specs.Messages.{carry}
-use Rattle.podbox.specs.Whole.{isFramed, bodyOf, messageDoes, wholeOf}
+use Rattle.podbox.specs.Whole.{messageDoes, wholeOf}
 use Rattle.podbox.specs.Take.{TookByte, took, limit, carried, happeningDoes, stepDoes, readyDoes, takeOf}
 use Rattle.podbox.specs.Box.{State, stateOf, plainAnswer, refusalOf, refusalWhole, boxRules, lentOf, doneOf, lentWhole, doneWhole}
-use Rattle.podbox.proofs.Carried.{Tame, stores, sends, applies, refuses, carry-tame}
+use Rattle.podbox.proofs.Carried.{Tame, stores, sends, applies, refuses, carry-tame, message-tame}
 
 -- what an outcome does not do: it neither grows memory, nor tells a length that it did not send, nor turns a call away
 tame-length : {memory : List ℕ} {o : Outcome} → Tame memory o → length (o .memory) ≡ length memory
@@ -66,11 +66,6 @@ abbrev Enough : List ℕ → List ℕ → ℕ → Type 0
 Enough memory receive number = number ≡ 0 → (limit < length receive) × (memorySize size ≤ length memory)
 
 module _ (settings : Settings) where
-  message-tame : (message memory : List ℕ) → memorySize size ≤ length memory → Tame memory (messageDoes settings message memory)
-  message-tame message memory m =
-      by (Tame memory) (ltb (longest size) (length message)) _ _ (λ _. refuses 10 (omega arith) (omega arith))
-      (λ _. by (Tame memory) (isFramed message) _ _ (λ _. carry-tame settings memory m (SysEx (bodyOf message))) (λ _. refuses 11 (omega arith) (omega arith)))
-
   named : (socket : ℕ) (entry : Lent State) → Named (refusalOf settings socket entry)
   named socket entry =
       by Named (ltb (length (entry .store .memory)) (memorySize size)) _ _ (λ _ h. absurd (true≢false h))
@@ -101,7 +96,7 @@ module _ (settings : Settings) where
   kept : (state : State) (f : Finish (List ℕ)) → memorySize size ≤ length (state .memory)
       → memorySize size ≤ length (boxRules settings .carry state f .store .memory)
   kept state (FromSocket s m) g = omega (arith, tame-length (carry-tame settings (state .memory) g m))
-  kept state (FromDirect message) g = omega (arith, tame-length (message-tame message (state .memory) g))
+  kept state (FromDirect message) g = omega (arith, tame-length (message-tame settings (state .memory) g message))
 
   pub lawful : Lawful (boxRules settings)
   lawful = record {
@@ -114,7 +109,7 @@ module _ (settings : Settings) where
     quiet = (refl, refl);
     cut = (refl, refl);
     told = λ state s m g. tame-told (carry-tame settings (state .memory) g m);
-    toldDirect = λ state message g. tame-told (message-tame message (state .memory) g);
+    toldDirect = λ state message g. tame-told (message-tame settings (state .memory) g message);
     passes = λ state message g. refl;
   }
 
@@ -227,5 +222,5 @@ module _ (settings : Settings) where
         takenDirect = λ message out state m h. rw (le-ltb (length (state .memory)) (memorySize size) m, le-ltb (length out) (longest size) h, valid);
         quiet = (refl, refl);
         answered = λ state s m g. tame-taken (carry-tame settings (state .memory) g m);
-        answeredDirect = λ state message g. tame-taken (message-tame message (state .memory) g);
+        answeredDirect = λ state message g. tame-taken (message-tame settings (state .memory) g message);
       }

@@ -23,6 +23,7 @@ use Rattle.podbox.specs.Settings.{size, isValid}
 use Rattle.podbox.specs.Messages.{carry}
 use Rattle.podbox.specs.Whole.{messageDoes, wholeOf}
 use Rattle.podbox.proofs.Frames.{frame, frame-body, frame-framed}
+use Rattle.podbox.proofs.Orders.{message-does}
 
 -- The whole messages: a body, and F7.
 abbrev pub dumpMessage : Target → List ℕ → List ℕ
@@ -100,7 +101,7 @@ module _ (settings : Settings) (memory reply : List ℕ) (m : memorySize size �
   unfolding carry
   framed-does rest low short =
       let long = length-append rest (0xF7 ∷ []) in
-      handed (frame rest) ∙ (rw (le-ltb (longest size) (length (frame rest)) (omega arith), frame-framed rest low, frame-body rest))
+      handed (frame rest) ∙ (rw (message-does settings (frame rest) memory, le-ltb (longest size) (length (frame rest)) (omega arith), frame-framed rest low, frame-body rest))
 
   -- A dump is stored, and only the bytes that it names change.
   pub dump-stored : (t : Target) (bytes : List ℕ) → There t → length bytes ≡ countFor size t → allAtMost 0xFF bytes ≡ true

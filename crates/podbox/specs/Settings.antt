@@ -1,8 +1,11 @@
 -- The sizes of this box, and its settings.
 use Prim.Native.Nat.{ℕ}
 use mathlib.Core.Bool.{Bool, _&&_}
+use mathlib.Core.List.{List}
 use lib.Dec.{leb}
+use lib.ListN.{replicate}
 use Rattle.sysex.specs.declared.Settings.{Settings}
+use Rattle.sysex.specs.Memory.{memorySize}
 
 -- "72 bytes each": every other length derives from the size
 abbrev pub size : ℕ
@@ -13,3 +16,10 @@ unfoldable pub isValid : Settings → Bool
 isValid s =
     leb (s .channel) 15 && (leb (s .omni) 1
     && (leb (s .revision0) 0x7F && (leb (s .revision1) 0x7F && (leb (s .revision2) 0x7F && leb (s .revision3) 0x7F))))
+
+-- "a fresh box (channel 0, no omni, revision 30 31 30 30)", and "Fresh memory is all zero."
+unfoldable pub freshSettings : Settings
+freshSettings = record { channel = 0; omni = 0; revision0 = 0x30; revision1 = 0x31; revision2 = 0x30; revision3 = 0x30 }
+
+unfoldable pub freshMemory : List ℕ
+freshMemory = replicate (memorySize size) 0

@@ -1,18 +1,20 @@
 -- "A whole message handed over at once has no socket and no receiver".
 use Prim.Native.Nat.{ℕ, _-_}
 use mathlib.Core.Bool.{Bool, cond, _&&_}
-use mathlib.Core.List.{List}
+use mathlib.Core.List.{List, _∷_}
 use lib.Dec.{eqb, leb, ltb}
 use lib.ListN.{length, getD, take, drop}
 use Rattle.ground.specs.Lists.{allAtMost}
-use Rattle.sockets.specs.Framer.{SysEx}
 use Rattle.sysex.specs.declared.Settings.{Settings}
+use Rattle.sysex.specs.declared.Check.{Check}
+use Rattle.sysex.specs.declared.Check.the-variants.{TooLong, Ours}
+use Rattle.sysex.specs.declared.Order.{Order}
 use Rattle.sysex.specs.declared.Answer.the-variants.{Refused}
 use Rattle.sysex.specs.Memory.{memorySize}
 use Rattle.sysex.specs.Forms.{longest}
-use Rattle.sysex.specs.Carrying.{Outcome, refused, Left, left, leaves}
-use Rattle.podbox.specs.Settings.{size, isValid}
-use Rattle.podbox.specs.Messages.{carry}
+use Rattle.sysex.specs.Judging.{Test, test, judgedBy, hasForm, furtherTests, bodyOrder}
+use Rattle.sysex.specs.Carrying.{Outcome, orderDoes, Left, left, leaves}
+use Rattle.podbox.specs.Settings.{size, isValid, freshSettings}
 
 -- "11 if it does not begin with F0, end with F7 as another byte, or has a byte above 0x7F between"
 unfoldable pub isFramed : List ℕ → Bool
@@ -24,11 +26,24 @@ isFramed message =
 abbrev pub bodyOf : List ℕ → List ℕ
 bodyOf message = take (length message - 1) message
 
--- "10 if over 5,193 bytes", then 11, "then as above"
+-- The checks of a message, in their order: "10 if over 5,193 bytes, then 11 .., then as above". 11 is one check, for the frame
+-- and for the identity form or the header.
+abbrev pub messageTests : Settings → List ℕ → List (Test Check)
+messageTests settings message =
+    test (TooLong (longest size)) (leb (length message) (longest size))
+    ∷ test Ours (isFramed message && hasForm (bodyOf message))
+    ∷ furtherTests size settings (bodyOf message)
+
+-- what a message asks for, or the first check that fails
+unfoldable pub messageOrder : Settings → List ℕ → Order
+messageOrder settings message = judgedBy (messageTests settings message) (bodyOrder (bodyOf message))
+
 abbrev pub messageDoes : Settings → List ℕ → List ℕ → Outcome
-messageDoes settings message memory =
-    cond (ltb (longest size) (length message)) (refused 10 memory)
-    (cond (isFramed message) (carry settings memory (SysEx (bodyOf message))) (refused 11 memory))
+messageDoes settings message memory = orderDoes size settings (messageOrder settings message) (bodyOf message) memory
+
+-- "Tell the customer why": what becomes of a message that a fresh box is handed
+abbrev pub reasonOf : List ℕ → Order
+reasonOf message = messageOrder freshSettings message
 
 -- "30 for the memory or the reply buffer, 32 for a setting"
 unfoldable pub wholeOf : Settings → List ℕ → List ℕ → List ℕ → Left

@@ -1,8 +1,9 @@
-// The box: a whole message from the panel, and one byte on one socket.
+// The box: a whole message from the panel, the reason for its number, and one byte on one socket.
 mod channel;
 mod panel;
 mod settings;
 mod socket;
+mod why;
 
 use framing::Receiver;
 pub use panel::whole_message;
@@ -14,6 +15,7 @@ pub use settings::MEMORY;
 pub use settings::Memory;
 pub use socket::take_byte;
 use sysex::Answer;
+pub use why::reason;
 
 // What a byte call gives back: the receiver for the next one, and the answer.
 pub struct Took {

@@ -44,7 +44,7 @@ fn framed(message: &[u8], settings: Settings, memory: &mut [u8], reply: &mut [u8
 }
 
 // Whether it begins with F0, ends with F7 as another byte, and has none above 0x7F between.
-fn is_framed(message: &[u8]) -> bool
+pub(crate) fn is_framed(message: &[u8]) -> bool
     ensures { λ r. ⌜ r ≡ isFramed (now (message .entry)) ⌝ }
 {
     if message.len() < 2 {

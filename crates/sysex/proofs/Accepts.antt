@@ -13,7 +13,7 @@ use Rattle.halves.proofs.Laws.{length-split, split-halves}
 use Rattle.sysex.specs.declared.Settings.{Settings}
 use Rattle.sysex.specs.declared.Order.the-variants.{Identify}
 use Rattle.sysex.specs.Forms.{bodyLength, isIdentity, isOurs}
-use Rattle.sysex.specs.Judging.{hasProgram, testsOf, orderOf, judgeOf}
+use Rattle.sysex.specs.Judging.{hasForm, hasProgram, furtherTests, orderOf, bodyOrder, judgeOf}
 use Rattle.sysex.specs.Formats.{Target, One, Edit, All, There, countFor, requestBody, dumpBody, identityBody, sendOrder, storeOrder}
 
 and-false : (a : Bool) → (a && false) ≡ false
@@ -27,14 +27,14 @@ no-identity rest = and-false (eqb (suc (suc (length rest))) 5)
 
 module _ (size : ℕ) (settings : Settings) where
   pub request-judged : (t : Target) → There t → judgeOf size settings (requestBody t) ≡ sendOrder t
-  unfolding judgeOf testsOf bodyLength hasProgram orderOf
+  unfolding judgeOf hasForm furtherTests bodyLength hasProgram bodyOrder orderOf
   request-judged (One p) h = rw (no-identity (0x01 ∷ 0x0C ∷ 0x01 ∷ 0 ∷ 0 ∷ p ∷ []), le-leb p 0x23 h)
   request-judged Edit h = rw (no-identity (0x01 ∷ 0x0C ∷ 0x01 ∷ 0 ∷ 1 ∷ []))
   request-judged All h = rw (no-identity (0x01 ∷ 0x0C ∷ 0x01 ∷ 0 ∷ 2 ∷ []))
 
   module _ (bytes : List ℕ) (low : allAtMost 0xFF bytes ≡ true) where
     pub dump-judged : (t : Target) → There t → length bytes ≡ countFor size t → judgeOf size settings (dumpBody t bytes) ≡ storeOrder t
-    unfolding judgeOf testsOf bodyLength hasProgram orderOf
+    unfolding judgeOf hasForm furtherTests bodyLength hasProgram bodyOrder orderOf
     dump-judged (One p) h e =
         let l = length-split bytes in
         rw (
@@ -62,5 +62,5 @@ module _ (size : ℕ) (settings : Settings) where
         )
 
   pub identity-judged : (cc : ℕ) → cc ≤ 0x7F → isOurs settings cc ≡ true → judgeOf size settings (identityBody cc) ≡ Identify cc
-  unfolding judgeOf isIdentity
+  unfolding judgeOf hasForm furtherTests bodyOrder isIdentity
   identity-judged cc h o = rw (le-leb cc 0x7F h, o)

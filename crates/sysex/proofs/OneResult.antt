@@ -6,7 +6,7 @@ use Rattle.ground.proofs.OneResult.{one}
 use Rattle.sysex.specs.declared.Settings.{Settings}
 use Rattle.sysex.specs.declared.Order.{Order}
 use Rattle.sysex.specs.declared.Answer.{Answer}
-use Rattle.sysex.specs.Numbers.{numberOf, lengthOf}
+use Rattle.sysex.specs.Numbers.{numberOf, lengthOf, orderNumber}
 use Rattle.sysex.specs.Judging.{judgeOf}
 use Rattle.sysex.specs.Carrying.{LeftBy, left, carryOf}
 
@@ -29,3 +29,6 @@ number-of-one answer r s = one
 
 pub length-of-one : (answer : Answer) (r s : ℕ) → r ≡ lengthOf answer → s ≡ lengthOf answer → r ≡ s
 length-of-one answer r s = one
+
+pub order-number-one : (order : Order) (r s : ℕ) → r ≡ orderNumber order → s ≡ orderNumber order → r ≡ s
+order-number-one order r s = one

@@ -13,12 +13,14 @@ use Rattle.ground.proofs.Tests.{both, by}
 use Rattle.halves.specs.HalfBytes.{split, join, allHalves}
 use Rattle.halves.proofs.Laws.{length-split, length-join, join-bytes, split-halves, split-join}
 use Rattle.sysex.specs.declared.Settings.{Settings}
+use Rattle.sysex.specs.declared.Check.{Check}
 use Rattle.sysex.specs.declared.Order.{Order}
 use Rattle.sysex.specs.declared.Order.the-variants.{Identify, Refused}
 use Rattle.sysex.specs.Forms.{header, begins, opcodeOf, typeOf, programOf, request, program, edit, versionPlace, dataPlace, dataCount, bodyLength, isIdentity, isOurs}
-use Rattle.sysex.specs.Judging.{Test, firstFailed, isKnown, hasLength, hasProgram, dataTests, testsOf, orderOf, judgeOf}
+use Rattle.sysex.specs.Judging.{hasForm, hasProgram, furtherTests, testsOf, orderOf, formOrder, bodyOrder, judgeOf}
 use Rattle.sysex.specs.Carrying.{HasData, Fits}
 use Rattle.sysex.specs.Formats.{Target, One, Edit, All, There, typeFor, ppFor, countFor, requestBody, sendOrder, storeOrder, IsDump, IsRequest, IsIdentity}
+use Rattle.sysex.proofs.InOrder.{AllHold, tested-cases}
 use Rattle.sysex.proofs.Judged.{Right, right}
 
 -- a list that begins so is that beginning, and the rest
@@ -113,13 +115,13 @@ pub data Meant (size : ℕ) (settings : Settings) (body : List ℕ) : Order → 
   identity : (cc : ℕ) → IsIdentity settings cc body → Meant size settings body (Identify cc)
   asked : (t : Target) → IsRequest t body → Meant size settings body (sendOrder t)
   dumped : (t : Target) → IsDump size t (join (drop (dataPlace (typeFor t)) body)) body → Meant size settings body (storeOrder t)
-  refused : (number : ℕ) → 11 ≤ number → number ≤ 22 → Meant size settings body (Refused number)
+  refused : (check : Check) → Meant size settings body (Refused check)
 
 module _ (size : ℕ) (settings : Settings) (body : List ℕ) where
   abbrev Means : Order → Type 0
   Means o = Meant size settings body o
 
-  order-meant : Right size body → Means (orderOf (opcodeOf body) (typeOf body) (programOf body))
+  order-meant : Right size body → Means (formOrder body)
   unfolding orderOf
   order-meant r =
       let all-left : eqb (typeOf body) program ≡ false → eqb (typeOf body) edit ≡ false → typeOf body ≡ 2 = λ t u.
@@ -135,26 +137,6 @@ module _ (size : ℕ) (settings : Settings) (body : List ℕ) where
       (λ t. by Means (eqb (typeOf body) edit) _ _
       (λ u. dumped Edit (dump-plain size body r d Edit (eqb-true _ _ u) refl refl refl tt))
       (λ u. dumped All (dump-plain size body r d All (all-left t u) refl refl refl tt))))
-
-  -- a refusal's number, where a test failed
-  failed-number : (eqb (firstFailed (testsOf size body)) 0 ≡ false) → (11 ≤ firstFailed (testsOf size body)) × (firstFailed (testsOf size body) ≤ 22)
-  unfolding testsOf
-  failed-number =
-      let P : ℕ → Type 0 = λ n. eqb n 0 ≡ false → (11 ≤ n) × (n ≤ 22) in
-      let told : (n : ℕ) → 11 ≤ n → n ≤ 22 → P n = λ n lo hi _. (lo, hi) in
-      by P (begins header body) _ _
-      (λ _. by P (isKnown body) _ _
-      (λ _. by P (hasLength size body) _ _
-      (λ _. by P (hasProgram (typeOf body) (programOf body)) _ _
-      (λ _. by (λ (ts : List Test). P (firstFailed ts)) (eqb (opcodeOf body) request) [] (dataTests (typeOf body) body)
-      (λ _ e. absurd (false≢true (sym e)))
-      (λ _. by P (eqb (getD body (versionPlace (typeOf body)) 0) 0) _ _
-      (λ _. by P (allHalves (drop (dataPlace (typeOf body)) body)) _ _ (λ _ e. absurd (false≢true (sym e))) (λ _. told 16 (omega arith) (omega arith)))
-      (λ _. told 15 (omega arith) (omega arith))))
-      (λ _. told 14 (omega arith) (omega arith)))
-      (λ _. told 13 (omega arith) (omega arith)))
-      (λ _. told 12 (omega arith) (omega arith)))
-      (λ _. told 11 (omega arith) (omega arith))
 
   identity-meant : isIdentity body ≡ true → isOurs settings (getD body 2 0) ≡ true → IsIdentity settings (getD body 2 0) body
   unfolding isIdentity
@@ -185,14 +167,16 @@ module _ (size : ℕ) (settings : Settings) (body : List ℕ) where
             ));
       }
 
+  passed-meant : AllHold (testsOf size settings body) → Means (bodyOrder body)
+  unfolding hasForm furtherTests bodyOrder
+  passed-meant a =
+      by Means (isIdentity body) _ _
+      (λ i. let further = rw i at (a .1) in identity (getD body 2 0) (identity-meant i (further .0)))
+      (λ i. let ours = rw i at (a .0) in order-meant (right size body ours (rw i at (a .1))))
+
   pub meant : Means (judgeOf size settings body)
   unfolding judgeOf
-  meant =
-      by Means (isIdentity body) _ _
-      (λ i. by Means (isOurs settings (getD body 2 0)) _ _ (λ o. identity (getD body 2 0) (identity-meant i o)) (λ _. refused 22 (omega arith) (omega arith)))
-      (λ _. by Means (eqb (firstFailed (testsOf size body)) 0) _ _
-      (λ e. order-meant (right size body (eqb-true _ _ e)))
-      (λ e. let n = failed-number e in refused (firstFailed (testsOf size body)) (n .0) (n .1)))
+  meant = tested-cases Means (testsOf size settings body) Refused (bodyOrder body) passed-meant (λ check _. refused check)
 
 -- what an order needs of its body to be carried out
 module _ (size : ℕ) (settings : Settings) (body : List ℕ) where
@@ -209,7 +193,7 @@ module _ (size : ℕ) (settings : Settings) (body : List ℕ) where
   fits o (dumped (One p) d) = (d .there, has-data (One p) _ d)
   fits o (dumped Edit d) = has-data Edit _ d
   fits o (dumped All d) = has-data All _ d
-  fits o (refused number lo hi) = tt
+  fits o (refused check) = tt
 
   pub judged-fits : Fits size (judgeOf size settings body) body
   judged-fits = fits (judgeOf size settings body) (meant size settings body)

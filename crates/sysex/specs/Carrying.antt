@@ -12,6 +12,7 @@ use Rattle.sysex.specs.declared.Order.{Order}
 use Rattle.sysex.specs.declared.Order.the-variants as order
 use Rattle.sysex.specs.declared.Answer.{Answer}
 use Rattle.sysex.specs.declared.Answer.the-variants.{Stored, Sent, Refused}
+use Rattle.sysex.specs.Numbers.{checkNumber}
 use Rattle.sysex.specs.Memory.{programPlace, editPlace, allSize, memorySize, partOf, putPart}
 use Rattle.sysex.specs.Forms.{program, edit, all, dataPlace, longest, dumpOf, identityOf}
 use Rattle.sysex.specs.Judging.{judgeOf}
@@ -47,7 +48,7 @@ orderDoes size settings order.SendAll body memory = answered all [] 0 (allSize s
 orderDoes size settings (order.StoreProgram p) body memory = stored program (programPlace size p) size body memory
 orderDoes size settings order.StoreEdit body memory = stored edit (editPlace size) size body memory
 orderDoes size settings order.StoreAll body memory = stored all 0 (allSize size) body memory
-orderDoes size settings (order.Refused number) body memory = refused number memory
+orderDoes size settings (order.Refused check) body memory = refused (checkNumber check) memory
 
 -- what a body does
 abbrev pub bodyDoes : ℕ → Settings → List ℕ → List ℕ → Outcome
@@ -88,4 +89,4 @@ Fits size order.SendAll body = Unit {0}
 Fits size (order.StoreProgram p) body = (p ≤ 0x23) × HasData program size body
 Fits size order.StoreEdit body = HasData edit size body
 Fits size order.StoreAll body = HasData all (allSize size) body
-Fits size (order.Refused number) body = Unit {0}
+Fits size (order.Refused check) body = Unit {0}

@@ -45,6 +45,10 @@ edit = 1
 abbrev pub all : ℕ
 all = 2
 
+-- "Dump version is 0."
+abbrev pub version : ℕ
+version = 0
+
 -- "pp" and "vv": the version stands behind the type, or behind the program of a program dump; the data bytes behind it
 abbrev pub versionPlace : ℕ → ℕ
 versionPlace type = cond (eqb type program) 8 7
@@ -66,7 +70,7 @@ longest size = dataPlace all + dataCount size all + 1
 
 -- a dump, version 0; `pp` is the program where the type has one, and else empty
 abbrev pub dumpOf : ℕ → List ℕ → List ℕ → List ℕ
-dumpOf type pp bytes = header ++ (dump ∷ type ∷ (pp ++ (0 ∷ (split bytes ++ (0xF7 ∷ [])))))
+dumpOf type pp bytes = header ++ (dump ∷ type ∷ (pp ++ (version ∷ (split bytes ++ (0xF7 ∷ [])))))
 
 -- "Identity: F0 7E cc 06 01 F7, cc at most 0x7F."
 unfoldable pub isIdentity : List ℕ → Bool

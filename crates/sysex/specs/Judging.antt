@@ -1,53 +1,83 @@
 -- "A finished SysEx is tested 10, 11, 12, 13, 14, 15, 16": from 11 on, where its length is known to be in bounds.
-use Prim.Native.Nat.{ℕ}
-use mathlib.Core.Bool.{Bool, true, cond, _&&_}
+-- The tests are one list, and the judge and the reason that is given for a refusal both go by it.
+use Prim.Native.Nat.{ℕ, _+_}
+use mathlib.Core.Bool.{Bool, true, cond, _&&_, _||_}
 use mathlib.Core.List.{List, [], _∷_}
 use lib.Dec.{eqb, leb}
 use lib.ListN.{length, getD, drop}
 use Rattle.halves.specs.HalfBytes.{allHalves}
 use Rattle.sysex.specs.declared.Settings.{Settings}
+use Rattle.sysex.specs.declared.Check.{Check}
+use Rattle.sysex.specs.declared.Check.the-variants.{Ours, OpcodeAndType, Length, Program, Version, HalfBytes, Channel}
 use Rattle.sysex.specs.declared.Order.{Order}
 use Rattle.sysex.specs.declared.Order.the-variants.{Identify, SendProgram, SendEdit, SendAll, StoreProgram, StoreEdit, StoreAll, Refused}
-use Rattle.sysex.specs.Forms.{header, begins, opcodeOf, typeOf, programOf, request, program, edit, versionPlace, dataPlace, bodyLength, isIdentity, isOurs}
+use Rattle.sysex.specs.Memory.{lastProgram}
+use Rattle.sysex.specs.Forms.{header, begins, opcodeOf, typeOf, programOf, request, program, edit, version, versionPlace, dataPlace, bodyLength, isIdentity, isOurs}
 
--- a test, and the number that is returned where it is the first to fail
-pub record Test : Type 0 where
-  pub number : ℕ
+-- a test, and its name
+pub record Test (Name : Type 0) : Type 0 where
+  pub name : Name
   pub holds : Bool
 
-abbrev pub test : ℕ → Bool → Test
-test number holds = record { number = number; holds = holds }
+abbrev pub test : {Name : Type 0} → Name → Bool → Test Name
+test name holds = record { name = name; holds = holds }
 
--- the number of the first test that fails; 0 where all hold
-abbrev pub firstFailed : List Test → ℕ
-firstFailed [] = 0
-firstFailed (t ∷ ts) = cond (t .holds) (firstFailed ts) (t .number)
+-- tests in front of something: it stands where all of them hold, and else what the first that fails makes of it
+abbrev pub tested : {Name Result : Type 0} → List (Test Name) → (Name → Result) → Result → Result
+tested [] failed x = x
+tested (t ∷ ts) failed x = cond (t .holds) (tested ts failed x) (failed (t .name))
+
+-- an order, unless a check fails
+abbrev pub judgedBy : List (Test Check) → Order → Order
+judgedBy tests order = tested tests Refused order
+
+-- 11 "not ours": "Any other 7E message is 11. All the rest begins F0 00 01 0C 01, else 11, too short included."
+unfoldable pub hasForm : List ℕ → Bool
+hasForm body = isIdentity body || begins header body
 
 -- 12 "opcode or type unknown or missing"
 abbrev pub isKnown : List ℕ → Bool
 isKnown body = leb 7 (length body) && (leb (opcodeOf body) 1 && leb (typeOf body) 2)
 
--- 13 "wrong length"
+-- 13 "wrong length", and the right one: "Whole length"
 abbrev pub hasLength : ℕ → List ℕ → Bool
 hasLength size body = eqb (length body) (bodyLength size (opcodeOf body) (typeOf body))
 
+abbrev pub wholeLength : ℕ → ℕ → ℕ → ℕ
+wholeLength size opcode type = bodyLength size opcode type + 1
+
 -- 14 "program above 0x23"
 unfoldable pub hasProgram : ℕ → ℕ → Bool
-hasProgram type number = cond (eqb type program) (leb number 0x23) true
+hasProgram type number = cond (eqb type program) (leb number lastProgram) true
 
 -- 15 "version not 0" and 16 "a data byte above 0x0F"
-abbrev pub dataTests : ℕ → List ℕ → List Test
-dataTests type body = test 15 (eqb (getD body (versionPlace type) 0) 0) ∷ test 16 (allHalves (drop (dataPlace type) body)) ∷ []
+abbrev pub dataTests : ℕ → List ℕ → List (Test Check)
+dataTests type body =
+    test (Version version) (eqb (getD body (versionPlace type) 0) version)
+    ∷ test (HalfBytes 0x0F) (allHalves (drop (dataPlace type) body)) ∷ []
 
 -- 14 is asked of requests and dumps, 15 and 16 of dumps alone
-abbrev pub fieldTests : ℕ → ℕ → List ℕ → List Test
-fieldTests opcode type body = test 14 (hasProgram type (programOf body)) ∷ cond (eqb opcode request) [] (dataTests type body)
+abbrev pub fieldTests : ℕ → ℕ → List ℕ → List (Test Check)
+fieldTests opcode type body =
+    test (Program lastProgram) (hasProgram type (programOf body))
+    ∷ cond (eqb opcode request) [] (dataTests type body)
 
-abbrev pub formTests : ℕ → List ℕ → List Test
-formTests size body = test 12 (isKnown body) ∷ test 13 (hasLength size body) ∷ fieldTests (opcodeOf body) (typeOf body) body
+abbrev pub formTests : ℕ → List ℕ → List (Test Check)
+formTests size body =
+    test OpcodeAndType (isKnown body)
+    ∷ test (Length (wholeLength size (opcodeOf body) (typeOf body))) (hasLength size body)
+    ∷ fieldTests (opcodeOf body) (typeOf body) body
 
-unfoldable pub testsOf : ℕ → List ℕ → List Test
-testsOf size body = test 11 (begins header body) ∷ formTests size body
+-- "Taken when cc is the channel, or 7F, or omni is on; else 22."
+abbrev pub identityTests : Settings → ℕ → List (Test Check)
+identityTests settings cc = test (Channel (settings .channel)) (isOurs settings cc) ∷ []
+
+-- behind 11: an identity request is judged by its channel alone
+unfoldable pub furtherTests : ℕ → Settings → List ℕ → List (Test Check)
+furtherTests size settings body = cond (isIdentity body) (identityTests settings (getD body 2 0)) (formTests size body)
+
+abbrev pub testsOf : ℕ → Settings → List ℕ → List (Test Check)
+testsOf size settings body = test Ours (hasForm body) ∷ furtherTests size settings body
 
 -- what a body that passes them all asks for
 unfoldable pub orderOf : ℕ → ℕ → ℕ → Order
@@ -56,15 +86,11 @@ orderOf opcode type number =
     (cond (eqb type program) (SendProgram number) (cond (eqb type edit) SendEdit SendAll))
     (cond (eqb type program) (StoreProgram number) (cond (eqb type edit) StoreEdit StoreAll))
 
-abbrev pub orderUnless : ℕ → Order → Order
-orderUnless number order = cond (eqb number 0) order (Refused number)
+abbrev pub formOrder : List ℕ → Order
+formOrder body = orderOf (opcodeOf body) (typeOf body) (programOf body)
 
--- "else 22": an identity request is judged by its channel alone
-abbrev pub identifyOf : Settings → ℕ → Order
-identifyOf settings cc = cond (isOurs settings cc) (Identify cc) (Refused 22)
+unfoldable pub bodyOrder : List ℕ → Order
+bodyOrder body = cond (isIdentity body) (Identify (getD body 2 0)) (formOrder body)
 
 unfoldable pub judgeOf : ℕ → Settings → List ℕ → Order
-judgeOf size settings body =
-    cond (isIdentity body)
-    (identifyOf settings (getD body 2 0))
-    (orderUnless (firstFailed (testsOf size body)) (orderOf (opcodeOf body) (typeOf body) (programOf body)))
+judgeOf size settings body = judgedBy (testsOf size settings body) (bodyOrder body)

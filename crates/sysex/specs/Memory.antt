@@ -7,6 +7,9 @@ use lib.ListN.{take, drop}
 abbrev pub programCount : ℕ
 programCount = 36
 
+abbrev pub lastProgram : ℕ
+lastProgram = 0x23
+
 -- "programs in number order, then the edit buffer"
 abbrev pub programPlace : ℕ → ℕ → ℕ
 programPlace size program = program * size

@@ -14,6 +14,7 @@ use crate::PROGRAMS;
 use crate::Settings;
 use crate::answering;
 use crate::judging;
+use crate::numbers;
 
 // What memory holds: the programs, and the edit buffer.
 const PARTS: usize = PROGRAMS + 1;
@@ -71,7 +72,7 @@ fn act(
         Order::StoreProgram(p) => store(judging::PROGRAM, p as usize * size, size, body, memory),
         Order::StoreEdit => store(judging::EDIT, PROGRAMS * size, size, body, memory),
         Order::StoreAll => store(judging::ALL, 0, PROGRAMS * size, body, memory),
-        Order::Refused(number) => Answer::Refused(number),
+        Order::Refused(check) => Answer::Refused(numbers::check_number(check)),
     }
 }
 

@@ -1,9 +1,10 @@
 // The tests of a body, in their order.
 ghost use mathlib.Core.Path.{_≡_};
-ghost use Prim.Native.Nat.{_≤_, _*_};
+ghost use Prim.Native.Nat.{_≤_, _+_, _*_};
 ghost use lib.ListN.{length};
-ghost use Rattle.sysex.specs.Forms.{versionPlace, dataPlace, dataCount, bodyLength, isIdentity, isOurs};
-ghost use Rattle.sysex.specs.Judging.{firstFailed, testsOf, formTests, fieldTests, dataTests, hasProgram, orderOf, identifyOf, judgeOf};
+ghost use Rattle.sysex.specs.Forms.{programOf, versionPlace, dataPlace, dataCount, bodyLength, isIdentity, isOurs};
+ghost use Rattle.sysex.specs.Judging.{judgedBy, identityTests, formTests, fieldTests, dataTests, hasProgram, orderOf, formOrder, judgeOf};
+use crate::Check;
 use crate::Order;
 use crate::PROGRAMS;
 use crate::Settings;
@@ -13,6 +14,13 @@ use crate::bytes;
 pub(crate) const HEADER: [u8; 5] = *b"\xF0\x00\x01\x0C\x01";
 
 const REQUEST: u8 = 0;
+
+// The highest program, the version of a dump, the highest half byte.
+const LAST: u8 = PROGRAMS as u8 - 1;
+
+const VERSION: u8 = 0;
+
+const HALF: u8 = 0x0F;
 
 pub(crate) const PROGRAM: u8 = 0;
 
@@ -27,15 +35,10 @@ pub(crate) fn judged(body: &[u8], settings: Settings, size: usize) -> Order
     if is_identity(body) {
         return identified(settings, bytes::byte_at(body, 2));
     }
-    let number = first_failed(body, size);
-    if number == 0 {
-        return order(
-            bytes::byte_at(body, 5),
-            bytes::byte_at(body, 6),
-            bytes::byte_at(body, 7),
-        );
+    if bytes::starts(&HEADER, body) {
+        return form_judged(body, size);
     }
-    Order::Refused(number)
+    Order::Refused(Check::Ours)
 }
 
 fn is_identity(body: &[u8]) -> bool
@@ -60,12 +63,12 @@ fn is_identity(body: &[u8]) -> bool
 }
 
 fn identified(settings: Settings, cc: u8) -> Order
-    ensures { λ r. ⌜ r ≡ identifyOf settings cc ⌝ }
+    ensures { λ r. ⌜ r ≡ judgedBy (identityTests settings cc) (Order.Identify cc) ⌝ }
 {
     if is_ours(settings, cc) {
         return Order::Identify(cc);
     }
-    Order::Refused(22)
+    Order::Refused(Check::Channel(settings.channel))
 }
 
 fn is_ours(settings: Settings, cc: u8) -> bool
@@ -80,42 +83,33 @@ fn is_ours(settings: Settings, cc: u8) -> bool
     settings.omni == 1
 }
 
-// The number of the first test that fails; 0 where all hold.
-fn first_failed(body: &[u8], size: usize) -> u8
+// A body that begins with the header.
+fn form_judged(body: &[u8], size: usize) -> Order
     requires { ⌜ size ≤ 255 ⌝ }
-    ensures { λ r. ⌜ r ≡ firstFailed (testsOf size (now (body .entry))) ⌝ }
-{
-    if bytes::starts(&HEADER, body) {
-        return form_failed(body, size);
-    }
-    11
-}
-
-fn form_failed(body: &[u8], size: usize) -> u8
-    requires { ⌜ size ≤ 255 ⌝ }
-    ensures { λ r. ⌜ r ≡ firstFailed (formTests size (now (body .entry))) ⌝ }
+    ensures { λ r. ⌜ r ≡ judgedBy (formTests size (now (body .entry))) (formOrder (now (body .entry))) ⌝ }
 {
     if body.len() < 7 {
-        return 12;
+        return Order::Refused(Check::OpcodeAndType);
     }
     let opcode = bytes::byte_at(body, 5);
     if 1 < opcode {
-        return 12;
+        return Order::Refused(Check::OpcodeAndType);
     }
     let kind = bytes::byte_at(body, 6);
     if 2 < kind {
-        return 12;
+        return Order::Refused(Check::OpcodeAndType);
     }
-    if body.len() != body_length(size, opcode, kind) {
-        return 13;
+    let length = body_length(size, opcode, kind);
+    if body.len() != length {
+        return Order::Refused(Check::Length(length as u16 + 1));
     }
-    fields_failed(body, size, opcode, kind)
+    fields_judged(body, size, opcode, kind)
 }
 
 // The length of a body of this opcode and type.
 fn body_length(size: usize, opcode: u8, kind: u8) -> usize
     requires { ⌜ size ≤ 255 ⌝ }
-    ensures { λ r. ⌜ r ≡ bodyLength size opcode kind ⌝ }
+    ensures { λ r. ⌜ (r ≡ bodyLength size opcode kind) × (r ≤ 72 * 255 + 9) ⌝ }
 {
     let version = version_place(kind);
     if opcode == REQUEST {
@@ -136,41 +130,44 @@ fn data_count(size: usize, kind: u8) -> usize
     }
 }
 
-fn fields_failed(body: &[u8], size: usize, opcode: u8, kind: u8) -> u8
+fn fields_judged(body: &[u8], size: usize, opcode: u8, kind: u8) -> Order
     requires { ⌜ length (now body) ≡ bodyLength size opcode kind ⌝ }
-    ensures { λ r. ⌜ r ≡ firstFailed (fieldTests opcode kind (now (body .entry))) ⌝ }
+    ensures { λ r. ⌜ r ≡ judgedBy (fieldTests opcode kind (now (body .entry))) (orderOf opcode kind (programOf (now (body .entry)))) ⌝ }
 {
-    if has_program(kind, bytes::byte_at(body, 7)) {
+    let number = bytes::byte_at(body, 7);
+    if has_program(kind, number) {
+        let asked = order(opcode, kind, number);
         if opcode == REQUEST {
-            return 0;
+            return asked;
         }
-        return data_failed(body, kind);
+        return data_judged(body, kind, asked);
     }
-    14
+    Order::Refused(Check::Program(LAST))
 }
 
 fn has_program(kind: u8, number: u8) -> bool
     ensures { λ r. ⌜ r ≡ hasProgram kind number ⌝ }
 {
     if kind == PROGRAM {
-        return number <= 0x23;
+        return number <= LAST;
     }
     true
 }
 
-fn data_failed(body: &[u8], kind: u8) -> u8
+// A dump's version and data, in front of what it asks for.
+fn data_judged(body: &[u8], kind: u8, asked: Order) -> Order
     requires { ⌜ dataPlace kind ≤ length (now body) ⌝ }
-    ensures { λ r. ⌜ r ≡ firstFailed (dataTests kind (now (body .entry))) ⌝ }
+    ensures { λ r. ⌜ r ≡ judgedBy (dataTests kind (now (body .entry))) asked ⌝ }
 {
     let version = version_place(kind);
-    if bytes::byte_at(body, version) != 0 {
-        return 15;
+    if bytes::byte_at(body, version) != VERSION {
+        return Order::Refused(Check::Version(VERSION));
     }
     let place = version + 1;
-    if halves::all_at_most(&body[place..], 0x0F) {
-        return 0;
+    if halves::all_at_most(&body[place..], HALF) {
+        return asked;
     }
-    16
+    Order::Refused(Check::HalfBytes(HALF))
 }
 
 // Where the version of a dump stands, one place before its data.

@@ -11,6 +11,7 @@ ghost use Rattle.sysex.specs.Judging.{judgeOf};
 ghost use Rattle.sysex.specs.Carrying.{left, carryOf};
 pub use numbers::length_of;
 pub use numbers::number_of;
+pub use numbers::order_number;
 
 // The bytes of a program, and how many programs there are. All other lengths derive from these.
 pub const PROGRAM: usize = 72;
@@ -26,7 +27,24 @@ pub struct Settings {
     pub revision3: u8,
 }
 
-// What a body asks for.
+// A check of a message, with what it expects: document 01's tests 10 to 16, and 22.
+pub enum Check {
+    // The most bytes of a message.
+    TooLong(u16),
+    Ours,
+    OpcodeAndType,
+    // The whole length for this opcode and type.
+    Length(u16),
+    // The highest program.
+    Program(u8),
+    Version(u8),
+    // The highest half byte.
+    HalfBytes(u8),
+    // The channel of an identity request, beside 0x7F.
+    Channel(u8),
+}
+
+// What a message asks for, or the first check that fails.
 pub enum Order {
     // The identity reply, with its cc.
     Identify(u8),
@@ -36,7 +54,7 @@ pub enum Order {
     StoreProgram(u8),
     StoreEdit,
     StoreAll,
-    Refused(u8),
+    Refused(Check),
 }
 
 // What the box answers, by document 01's numbers. A SysEx is stored, answered with so many bytes, or refused.

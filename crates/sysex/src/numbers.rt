@@ -1,7 +1,9 @@
-// An answer as document 01's numbers.
+// Answers, orders and checks as document 01's numbers.
 ghost use mathlib.Core.Path.{_≡_};
-ghost use Rattle.sysex.specs.Numbers.{numberOf, lengthOf};
+ghost use Rattle.sysex.specs.Numbers.{numberOf, lengthOf, checkNumber, orderNumber};
 use crate::Answer;
+use crate::Check;
+use crate::Order;
 
 pub fn number_of(answer: Answer) -> u8
     ensures { λ r. ⌜ r ≡ numberOf answer ⌝ }
@@ -27,5 +29,37 @@ pub fn length_of(answer: Answer) -> u16
         Answer::Applied => 0,
         Answer::Cut => 0,
         Answer::Refused(_) => 0,
+    }
+}
+
+// The number of a check that fails.
+pub(crate) fn check_number(check: Check) -> u8
+    ensures { λ r. ⌜ r ≡ checkNumber check ⌝ }
+{
+    match check {
+        Check::TooLong(_) => 10,
+        Check::Ours => 11,
+        Check::OpcodeAndType => 12,
+        Check::Length(_) => 13,
+        Check::Program(_) => 14,
+        Check::Version(_) => 15,
+        Check::HalfBytes(_) => 16,
+        Check::Channel(_) => 22,
+    }
+}
+
+// The number of a message with this order.
+pub fn order_number(order: Order) -> u8
+    ensures { λ r. ⌜ r ≡ orderNumber order ⌝ }
+{
+    match order {
+        Order::Identify(_) => 2,
+        Order::SendProgram(_) => 2,
+        Order::SendEdit => 2,
+        Order::SendAll => 2,
+        Order::StoreProgram(_) => 1,
+        Order::StoreEdit => 1,
+        Order::StoreAll => 1,
+        Order::Refused(check) => check_number(check),
     }
 }

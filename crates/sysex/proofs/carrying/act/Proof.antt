@@ -61,7 +61,7 @@ returns-7 c = let e = c .before .before .store3 .ensures in rw (c .before .befor
 
 returns-8 : tie.Need-returns-8
 unfolding orderDoes
-returns-8 c = rw (c .before .order4 .given .1)
+returns-8 c = rw (c .before .before .order4 .given .1, c .check-number .ensures)
 
 pub act-spec : {M : Type 1} → statement M
 act-spec =
@@ -93,6 +93,7 @@ act-spec =
     (λ c. search needs)
     store-requires-3
     (λ c. search needs)
+    (λ c κs. search needs)
     (λ c. search needs)
     returns
     (λ c. search needs)

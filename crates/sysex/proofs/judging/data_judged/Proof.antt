@@ -5,8 +5,8 @@ use borrow.Author.Tests.{eq-eqb}
 use Rattle.ground.proofs.Tests.{tests}
 use Rattle.ground.proofs.Lists.{to-end}
 use borrow.Author.Needs.{needs}
-use Rattle.sysex.proofs.judging.data_failed.Statement.{statement}
-use Rattle.sysex.proofs.judging.data_failed.Tie as tie
+use Rattle.sysex.proofs.judging.data_judged.Statement.{statement}
+use Rattle.sysex.proofs.judging.data_judged.Tie as tie
 
 returns : tie.Need-returns
 returns c = search (tests, ← c .before .before .version-place .ensures .0, ← c .before .byte-at .ensures)
@@ -17,8 +17,8 @@ returns-2 c = let k = c .before .before .before in rw (← k .before .before .ve
 returns-3 : tie.Need-returns-3
 returns-3 c = let k = c .before .before .before in rw (← k .before .before .version-place .ensures .0, ← k .before .byte-at .ensures, eq-eqb _ 0 (k .if1 .left), ← to-end (k .before .before .version-place .result + 1) (now (k .before .before .before .before .args .body)), ← c .before .all-at-most .ensures, c .if2 .left)
 
-pub data-failed-spec : {M : Type 1} → statement M
-data-failed-spec =
+pub data-judged-spec : {M : Type 1} → statement M
+data-judged-spec =
     tie.close
     (tie.spec
     (λ c κs. search needs)
