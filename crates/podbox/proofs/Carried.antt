@@ -3,7 +3,6 @@ use Prim.Native.Nat.{ℕ, _≤_}
 use mathlib.Core.List.{List, []}
 use mathlib.Core.Path.{_≡_, _∙_}
 use native.Mathlib.Omega.{arith}
-use lib.Dec.{ltb}
 use lib.ListN.{length, drop, length-take, length-drop, take-append-drop}
 use Rattle.ground.proofs.Tests.{by}
 use Rattle.halves.specs.HalfBytes.{join}
@@ -25,8 +24,8 @@ use Rattle.sysex.proofs.InOrder.{check-number}
 use Rattle.sysex.proofs.Understands.{Meant, identity, asked, dumped, refused, meant}
 use Rattle.podbox.specs.Settings.{size}
 use Rattle.podbox.specs.Messages.{isHeard, isController, answerOf, controllerDoes, carry}
-use Rattle.podbox.specs.Whole.{isFramed, bodyOf, messageDoes}
-use Rattle.podbox.proofs.Orders.{message-does}
+use Rattle.podbox.specs.Whole.{bodyOf, messageOrder, messageDoes}
+use Rattle.podbox.proofs.Orders.{message-meant}
 use Rattle.podbox.proofs.WholeMessages.{store-does, send-does, dumpMessage, dump-fits, named-inside}
 
 -- an outcome: 1 and 3 keep the length of memory and send nothing, 2 sends no more than the longest message and keeps memory, a refusal from 10 to 22 does nothing
@@ -74,6 +73,4 @@ module _ (settings : Settings) (memory : List ℕ) (m : memorySize size ≤ leng
 
   -- the same of a message that is handed over whole
   pub message-tame : (message : List ℕ) → Tame memory (messageDoes settings message memory)
-  message-tame message = rw (message-does settings message memory)
-      (by (Tame memory) (ltb (longest size) (length message)) _ _ (λ _. refuses 10 (omega arith) (omega arith))
-      (λ _. by (Tame memory) (isFramed message) _ _ (λ _. carry-tame (SysEx (bodyOf message))) (λ _. refuses 11 (omega arith) (omega arith))))
+  message-tame message = order-tame (bodyOf message) (messageOrder settings message) (message-meant settings message)

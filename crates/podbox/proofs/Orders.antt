@@ -6,6 +6,7 @@ use mathlib.Core.Path.{_≡_, refl, ap, _∙_}
 use lib.Dec.{leb, ltb}
 use lib.ListN.{length}
 use borrow.Author.Tests.{leb-true, leb-false, le-ltb, lt-ltb}
+use Rattle.ground.proofs.Tests.{both}
 use Rattle.sockets.specs.Framer.{SysEx}
 use Rattle.sysex.specs.declared.Settings.{Settings}
 use Rattle.sysex.specs.declared.Order.{Order}
@@ -14,9 +15,12 @@ use Rattle.sysex.specs.declared.Check.the-variants.{TooLong, Ours}
 use Rattle.sysex.specs.Forms.{longest}
 use Rattle.sysex.specs.Judging.{test, judgedBy, hasForm, furtherTests, bodyOrder, judgeOf}
 use Rattle.sysex.specs.Carrying.{orderDoes, refused}
+use Rattle.sysex.proofs.InOrder.{tested-cases}
+use Rattle.sysex.proofs.Understands as understood
+use Rattle.sysex.proofs.Understands.{Meant, passed-meant}
 use Rattle.podbox.specs.Settings.{size}
 use Rattle.podbox.specs.Messages.{carry}
-use Rattle.podbox.specs.Whole.{isFramed, bodyOf, messageOrder, messageDoes}
+use Rattle.podbox.specs.Whole.{isFramed, bodyOf, messageTests, messageOrder, messageDoes}
 
 -- at most so many is not over so many
 not-over : (m n : ℕ) → leb m n ≡ not (ltb n m)
@@ -51,3 +55,11 @@ module _ (settings : Settings) (message : List ℕ) where
       steps true framed = refl
       steps false true = refl
       steps false false = refl
+
+  -- a message with an order is of that order's format
+  pub message-meant : Meant size settings (bodyOf message) (messageOrder settings message)
+  unfolding messageOrder
+  message-meant =
+      tested-cases (Meant size settings (bodyOf message)) (messageTests settings message) Refused (bodyOrder (bodyOf message))
+      (λ a. passed-meant size settings (bodyOf message) (both (isFramed message) (hasForm (bodyOf message)) (a .1 .0) .1, a .1 .1))
+      (λ check _. understood.refused check)

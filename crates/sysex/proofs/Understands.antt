@@ -167,7 +167,7 @@ module _ (size : ℕ) (settings : Settings) (body : List ℕ) where
             ));
       }
 
-  passed-meant : AllHold (testsOf size settings body) → Means (bodyOrder body)
+  pub passed-meant : AllHold (testsOf size settings body) → Means (bodyOrder body)
   unfolding hasForm furtherTests bodyOrder
   passed-meant a =
       by Means (isIdentity body) _ _
