@@ -6,7 +6,7 @@ use lib.ListN.{replicate, set, take}
 use Rattle.sysex.specs.declared.Order.{Order}
 use Rattle.sysex.specs.declared.Order.the-variants.{Identify, SendProgram, SendAll, StoreProgram, StoreAll, Refused}
 use Rattle.sysex.specs.declared.Check.the-variants.{TooLong, Ours, OpcodeAndType, Length, Program, Version, HalfBytes, Channel}
-use Rattle.sysex.specs.Forms.{bodyLength, isIdentity, isOurs}
+use Rattle.sysex.specs.Forms.{bodyLength, isIdentity, isOurChannel}
 use Rattle.sysex.specs.Judging.{hasForm, hasProgram, furtherTests, bodyOrder, orderOf}
 use Rattle.sysex.specs.Formats.{One, All}
 use Rattle.podbox.specs.Settings.{freshSettings}
@@ -56,5 +56,5 @@ told =
     []
 
 pub as-told : map (λ (t : Told). reasonOf (t .message)) told ≡ map (λ (t : Told). t .order) told
-unfolding told one every zeros freshSettings messageOrder isFramed hasForm isIdentity isOurs furtherTests bodyLength hasProgram bodyOrder orderOf
+unfolding told one every zeros freshSettings messageOrder isFramed hasForm isIdentity isOurChannel furtherTests bodyLength hasProgram bodyOrder orderOf
 as-told = refl

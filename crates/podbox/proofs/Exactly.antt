@@ -16,7 +16,7 @@ use Rattle.sysex.specs.declared.Settings.{Settings}
 use Rattle.sysex.specs.declared.Order.{Order}
 use Rattle.sysex.specs.declared.Answer.the-variants.{Stored, Sent, Refused}
 use Rattle.sysex.specs.Memory.{memorySize, partOf, putPart}
-use Rattle.sysex.specs.Forms.{longest, dataPlace, identityOf, isOurs}
+use Rattle.sysex.specs.Forms.{longest, dataPlace, identityOf, isOurChannel}
 use Rattle.sysex.specs.Numbers.{checkNumber}
 use Rattle.sysex.specs.Judging.{judgeOf}
 use Rattle.sysex.specs.Carrying.{Outcome, Left, left, leaves, orderDoes}
@@ -43,7 +43,7 @@ pub record RequestIs (t : Target) (message : List ℕ) : Type 0 where
 
 pub record IdentityIs (settings : Settings) (cc : ℕ) (message : List ℕ) : Type 0 where
   pub low : cc ≤ 0x7F
-  pub ours : isOurs settings cc ≡ true
+  pub ours : isOurChannel settings cc ≡ true
   pub form : message ≡ identityMessage cc
 
 module _ (settings : Settings) (message memory reply : List ℕ) (P : Left → Type 0)

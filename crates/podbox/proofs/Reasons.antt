@@ -1,22 +1,24 @@
 -- "The reason must be true": what is said of a message is what a fresh box makes of it.
 use Prim.Native.Nat.{ℕ, _+_, _≤_}
-use mathlib.Core.Bool.{Bool, true, false}
+use mathlib.Core.Bool.{Bool, true, false, _&&_}
 use mathlib.Core.List.{List}
 use mathlib.Core.Path.{_≡_, refl, ap, _∙_}
 use native.Mathlib.Omega.{arith}
-use lib.Dec.{leb}
+use lib.Dec.{eqb, leb}
 use lib.ListN.{length, take, length-take, length-replicate}
 use lib.Seq.{take-all}
 use borrow.Author.Tests.{leb-true, leb-false, lt-ltb}
+use Rattle.ground.proofs.Tests.{both, by}
 use Rattle.sysex.specs.declared.Check.{Check}
+use Rattle.sysex.specs.declared.Check.the-variants.{TooLong, Ours, OpcodeAndType, Length, Program, Version, HalfBytes, Channel}
 use Rattle.sysex.specs.declared.Order.{Order}
 use Rattle.sysex.specs.declared.Order.the-variants.{Refused}
 use Rattle.sysex.specs.Memory.{memorySize}
-use Rattle.sysex.specs.Forms.{longest}
+use Rattle.sysex.specs.Forms.{opcodeOf, typeOf, request, wholeLength, longest, isIdentity}
 use Rattle.sysex.specs.Numbers.{numberOf, orderNumber}
-use Rattle.sysex.specs.Judging.{bodyOrder}
+use Rattle.sysex.specs.Judging.{furtherTests, bodyOrder}
 use Rattle.sysex.specs.Carrying.{Left, leaves, orderDoes}
-use Rattle.sysex.proofs.InOrder.{FirstToFail, AllHold, IsDone, tested-cases, passed-done, does-number}
+use Rattle.sysex.proofs.InOrder.{FirstToFail, AllHold, Names, first-named, IsDone, tested-cases, passed-done, does-number}
 use Rattle.podbox.specs.Settings.{size, isValid, freshSettings, freshMemory}
 use Rattle.podbox.specs.Whole.{bodyOf, messageTests, messageOrder, reasonOf, wholeOf}
 use Rattle.podbox.proofs.Orders.{message-order}
@@ -52,6 +54,43 @@ reason-true message reply r = (
   ap (λ (l : Left). numberOf (l .answer)) (reason-done message freshMemory reply (omega (arith, length-replicate {A = ℕ} (memorySize size) 0)) r)
       ∙ does-number size freshSettings (bodyOf message) freshMemory (reasonOf message),
 )
+
+-- All that a check of a fresh box can expect: with the programs up to 0x23 (`message-meant`) and the whole lengths of the six forms
+-- (`as-the-table-says`), these are all the lines that can be printed.
+pub data Expected : Check → Type 0 where
+  most : Expected (TooLong 5193)
+  ours : Expected Ours
+  known : Expected OpcodeAndType
+  whole : (opcode type : ℕ) → opcode ≤ 1 → type ≤ 2 → Expected (Length (wholeLength size opcode type))
+  numbered : Expected (Program 0x23)
+  versioned : Expected (Version 0)
+  halved : Expected (HalfBytes 0x0F)
+  channelled : Expected (Channel 0)
+
+pub expected : (message : List ℕ) (check : Check) → FirstToFail (messageTests freshSettings message) check → Expected check
+unfolding freshSettings furtherTests
+expected message check first =
+    let body = bodyOf message in
+    first-named Expected first (
+      most,
+      (λ _. (
+        ours,
+        (λ _. by (Names Expected) (isIdentity body) _ _
+            (λ _. (channelled, (λ _. tt)))
+            (λ _. (
+              known,
+              (λ k. (let kinds = both (leb (opcodeOf body) 1) (leb (typeOf body) 2) (both (leb 7 (length body)) (leb (opcodeOf body) 1 && leb (typeOf body) 2) k .1) in (
+                whole (opcodeOf body) (typeOf body) (leb-true _ _ (kinds .0)) (leb-true _ _ (kinds .1)),
+                (λ _. (
+                  numbered,
+                  (λ _. by (Names Expected) (eqb (opcodeOf body) request) _ _
+                      (λ _. tt)
+                      (λ _. (versioned, (λ _. (halved, (λ _. tt)))))),
+                )),
+              ))),
+            ))),
+      )),
+    )
 
 -- "input of any length": one byte more than the longest message is enough to judge by
 pub first-bytes : (message : List ℕ) → reasonOf (take (longest size + 1) message) ≡ reasonOf message

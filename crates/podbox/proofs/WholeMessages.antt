@@ -13,7 +13,7 @@ use Rattle.halves.proofs.Laws.{length-split, join-split, split-halves}
 use Rattle.sysex.specs.declared.Settings.{Settings}
 use Rattle.sysex.specs.declared.Answer.the-variants.{Stored, Sent}
 use Rattle.sysex.specs.Memory.{memorySize, partOf, putPart}
-use Rattle.sysex.specs.Forms.{longest, dataPlace, identityOf, isOurs}
+use Rattle.sysex.specs.Forms.{longest, dataPlace, identityOf, isOurChannel}
 use Rattle.sysex.specs.Judging.{judgeOf}
 use Rattle.sysex.specs.Carrying.{Left, left, leaves, orderDoes}
 use Rattle.sysex.specs.Formats.{Target, One, Edit, All, There, typeFor, ppFor, placeFor, countFor, requestBody, dumpBody, identityBody, sendOrder, storeOrder}
@@ -119,7 +119,7 @@ module _ (settings : Settings) (memory reply : List ℕ) (m : memorySize size �
       framed-does (requestRest t) (request-low t h) (request-short t)
       ∙ (rw (request-judged size settings t h, send-does settings t (requestBody t) memory))
 
-  pub identity-answered : (cc : ℕ) → cc ≤ 0x7F → isOurs settings cc ≡ true
+  pub identity-answered : (cc : ℕ) → cc ≤ 0x7F → isOurChannel settings cc ≡ true
       → wholeOf settings (identityMessage cc) memory reply ≡ left (Sent 17) memory (written (identityOf settings cc) reply)
   unfolding orderDoes
   identity-answered cc h o =

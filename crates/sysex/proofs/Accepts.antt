@@ -12,7 +12,7 @@ use Rattle.halves.specs.HalfBytes.{split}
 use Rattle.halves.proofs.Laws.{length-split, split-halves}
 use Rattle.sysex.specs.declared.Settings.{Settings}
 use Rattle.sysex.specs.declared.Order.the-variants.{Identify}
-use Rattle.sysex.specs.Forms.{bodyLength, isIdentity, isOurs}
+use Rattle.sysex.specs.Forms.{bodyLength, isIdentity, isOurChannel}
 use Rattle.sysex.specs.Judging.{hasForm, hasProgram, furtherTests, orderOf, bodyOrder, judgeOf}
 use Rattle.sysex.specs.Formats.{Target, One, Edit, All, There, countFor, requestBody, dumpBody, identityBody, sendOrder, storeOrder}
 
@@ -61,6 +61,6 @@ module _ (size : ℕ) (settings : Settings) where
           split-halves bytes low,
         )
 
-  pub identity-judged : (cc : ℕ) → cc ≤ 0x7F → isOurs settings cc ≡ true → judgeOf size settings (identityBody cc) ≡ Identify cc
+  pub identity-judged : (cc : ℕ) → cc ≤ 0x7F → isOurChannel settings cc ≡ true → judgeOf size settings (identityBody cc) ≡ Identify cc
   unfolding judgeOf hasForm furtherTests bodyOrder isIdentity
   identity-judged cc h o = rw (le-leb cc 0x7F h, o)

@@ -1,12 +1,9 @@
 -- The column "Whole length" of document 01's table of forms, from the size of a program.
-use Prim.Native.Nat.{ℕ, _+_}
+use Prim.Native.Nat.{ℕ}
 use mathlib.Core.List.{List, [], _∷_}
 use mathlib.Core.Path.{_≡_, refl}
-use Rattle.sysex.specs.Forms.{request, dump, program, edit, all, bodyLength, longest}
+use Rattle.sysex.specs.Forms.{request, dump, program, edit, all, bodyLength, wholeLength, longest}
 use Rattle.sysex.specs.Memory.{memorySize}
-
-pub wholeLength : ℕ → ℕ → ℕ → ℕ
-wholeLength size opcode type = bodyLength size opcode type + 1
 
 pub wholeLengths : ℕ → List ℕ
 wholeLengths size =
@@ -14,7 +11,7 @@ wholeLengths size =
     ∷ wholeLength size dump program ∷ wholeLength size dump edit ∷ wholeLength size dump all ∷ []
 
 pub as-the-table-says : wholeLengths 72 ≡ 9 ∷ 8 ∷ 8 ∷ 154 ∷ 153 ∷ 5193 ∷ []
-unfolding wholeLengths wholeLength bodyLength
+unfolding wholeLengths bodyLength
 as-the-table-says = refl
 
 -- "2,664 bytes in all"; "5,193 with F7 is the longest message"

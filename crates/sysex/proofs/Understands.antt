@@ -16,7 +16,7 @@ use Rattle.sysex.specs.declared.Settings.{Settings}
 use Rattle.sysex.specs.declared.Check.{Check}
 use Rattle.sysex.specs.declared.Order.{Order}
 use Rattle.sysex.specs.declared.Order.the-variants.{Identify, Refused}
-use Rattle.sysex.specs.Forms.{header, begins, opcodeOf, typeOf, programOf, request, program, edit, versionPlace, dataPlace, dataCount, bodyLength, isIdentity, isOurs}
+use Rattle.sysex.specs.Forms.{header, begins, opcodeOf, typeOf, programOf, request, program, edit, versionPlace, dataPlace, dataCount, bodyLength, isIdentity, isOurChannel}
 use Rattle.sysex.specs.Judging.{hasForm, hasProgram, furtherTests, testsOf, orderOf, formOrder, bodyOrder, judgeOf}
 use Rattle.sysex.specs.Carrying.{HasData, Fits}
 use Rattle.sysex.specs.Formats.{Target, One, Edit, All, There, typeFor, ppFor, countFor, requestBody, sendOrder, storeOrder, IsDump, IsRequest, IsIdentity}
@@ -138,7 +138,7 @@ module _ (size : ℕ) (settings : Settings) (body : List ℕ) where
       (λ u. dumped Edit (dump-plain size body r d Edit (eqb-true _ _ u) refl refl refl tt))
       (λ u. dumped All (dump-plain size body r d All (all-left t u) refl refl refl tt))))
 
-  identity-meant : isIdentity body ≡ true → isOurs settings (getD body 2 0) ≡ true → IsIdentity settings (getD body 2 0) body
+  identity-meant : isIdentity body ≡ true → isOurChannel settings (getD body 2 0) ≡ true → IsIdentity settings (getD body 2 0) body
   unfolding isIdentity
   identity-meant t o =
       let fifth = eqb (getD body 4 0) 0x01 in

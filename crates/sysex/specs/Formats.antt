@@ -10,7 +10,7 @@ use Rattle.sysex.specs.declared.Settings.{Settings}
 use Rattle.sysex.specs.declared.Order.{Order}
 use Rattle.sysex.specs.declared.Order.the-variants.{SendProgram, SendEdit, SendAll, StoreProgram, StoreEdit, StoreAll}
 use Rattle.sysex.specs.Memory.{programPlace, editPlace, allSize}
-use Rattle.sysex.specs.Forms.{header, request, dump, program, edit, all, isOurs}
+use Rattle.sysex.specs.Forms.{header, request, dump, program, edit, all, version, isOurChannel}
 
 -- what a dump or a request names: one program, the edit buffer, all programs
 pub data Target : Type 0 where
@@ -50,7 +50,7 @@ abbrev pub requestBody : Target → List ℕ
 requestBody t = header ++ (request ∷ typeFor t ∷ ppFor t)
 
 abbrev pub dumpBody : Target → List ℕ → List ℕ
-dumpBody t bytes = header ++ (dump ∷ typeFor t ∷ (ppFor t ++ (0 ∷ split bytes)))
+dumpBody t bytes = header ++ (dump ∷ typeFor t ∷ (ppFor t ++ (version ∷ split bytes)))
 
 abbrev pub identityBody : ℕ → List ℕ
 identityBody cc = 0xF0 ∷ 0x7E ∷ cc ∷ 0x06 ∷ 0x01 ∷ []
@@ -68,7 +68,7 @@ pub record IsRequest (t : Target) (body : List ℕ) : Type 0 where
 -- an identity request that is ours
 pub record IsIdentity (settings : Settings) (cc : ℕ) (body : List ℕ) : Type 0 where
   pub low : cc ≤ 0x7F
-  pub ours : isOurs settings cc ≡ true
+  pub ours : isOurChannel settings cc ≡ true
   pub form : body ≡ identityBody cc
 
 -- the orders that they are

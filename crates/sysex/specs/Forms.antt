@@ -60,9 +60,12 @@ dataPlace type = versionPlace type + 1
 abbrev pub dataCount : ℕ → ℕ → ℕ
 dataCount size type = cond (eqb type all) (2 * allSize size) (2 * size)
 
--- "Whole length", less F7: a request ends where a dump has its version
+-- "Whole length", less F7 and with it: a request ends where a dump has its version
 unfoldable pub bodyLength : ℕ → ℕ → ℕ → ℕ
 bodyLength size opcode type = cond (eqb opcode request) (versionPlace type) (dataPlace type + dataCount size type)
+
+abbrev pub wholeLength : ℕ → ℕ → ℕ → ℕ
+wholeLength size opcode type = bodyLength size opcode type + 1
 
 -- the whole length of the longest message: an all programs dump
 abbrev pub longest : ℕ → ℕ
@@ -78,8 +81,8 @@ isIdentity body =
     eqb (length body) 5 && (eqb (getD body 0 0) 0xF0 && (eqb (getD body 1 0) 0x7E && (leb (getD body 2 0) 0x7F && (eqb (getD body 3 0) 0x06 && eqb (getD body 4 0) 0x01))))
 
 -- "Taken when cc is the channel, or 7F, or omni is on"
-unfoldable pub isOurs : Settings → ℕ → Bool
-isOurs settings cc = cond (eqb cc (settings .channel)) true (cond (eqb cc 0x7F) true (eqb (settings .omni) 1))
+unfoldable pub isOurChannel : Settings → ℕ → Bool
+isOurChannel settings cc = cond (eqb cc (settings .channel)) true (cond (eqb cc 0x7F) true (eqb (settings .omni) 1))
 
 -- "The reply is 17 bytes: F0 7E cc 06 02 00 01 0C 00 00 00 01, four revision bytes, F7, with cc as received."
 abbrev pub identityOf : Settings → ℕ → List ℕ

@@ -1,6 +1,6 @@
 -- "A finished SysEx is tested 10, 11, 12, 13, 14, 15, 16": from 11 on, where its length is known to be in bounds.
 -- The tests are one list, and the judge and the reason that is given for a refusal both go by it.
-use Prim.Native.Nat.{ℕ, _+_}
+use Prim.Native.Nat.{ℕ}
 use mathlib.Core.Bool.{Bool, true, cond, _&&_, _||_}
 use mathlib.Core.List.{List, [], _∷_}
 use lib.Dec.{eqb, leb}
@@ -12,7 +12,7 @@ use Rattle.sysex.specs.declared.Check.the-variants.{Ours, OpcodeAndType,
 use Rattle.sysex.specs.declared.Order.{Order}
 use Rattle.sysex.specs.declared.Order.the-variants.{Identify, SendProgram, SendEdit, SendAll, StoreProgram, StoreEdit, StoreAll, Refused}
 use Rattle.sysex.specs.Memory.{lastProgram}
-use Rattle.sysex.specs.Forms.{header, begins, opcodeOf, typeOf, programOf, request, program, edit, version, versionPlace, dataPlace, bodyLength, isIdentity, isOurs}
+use Rattle.sysex.specs.Forms.{header, begins, opcodeOf, typeOf, programOf, request, program, edit, version, versionPlace, dataPlace, bodyLength, wholeLength, isIdentity, isOurChannel}
 
 -- a test, and its name
 pub record Test (Name : Type 0) : Type 0 where
@@ -39,12 +39,9 @@ hasForm body = isIdentity body || begins header body
 abbrev pub isKnown : List ℕ → Bool
 isKnown body = leb 7 (length body) && (leb (opcodeOf body) 1 && leb (typeOf body) 2)
 
--- 13 "wrong length", and the right one: "Whole length"
+-- 13 "wrong length"
 abbrev pub hasLength : ℕ → List ℕ → Bool
 hasLength size body = eqb (length body) (bodyLength size (opcodeOf body) (typeOf body))
-
-abbrev pub wholeLength : ℕ → ℕ → ℕ → ℕ
-wholeLength size opcode type = bodyLength size opcode type + 1
 
 -- 14 "program above 0x23"
 unfoldable pub hasProgram : ℕ → ℕ → Bool
@@ -70,7 +67,7 @@ formTests size body =
 
 -- "Taken when cc is the channel, or 7F, or omni is on; else 22."
 abbrev pub identityTests : Settings → ℕ → List (Test Check)
-identityTests settings cc = test (Channel (settings .channel)) (isOurs settings cc) ∷ []
+identityTests settings cc = test (Channel (settings .channel)) (isOurChannel settings cc) ∷ []
 
 -- behind 11: an identity request is judged by its channel alone
 unfoldable pub furtherTests : ℕ → Settings → List ℕ → List (Test Check)

@@ -2,7 +2,7 @@
 ghost use mathlib.Core.Path.{_≡_};
 ghost use Prim.Native.Nat.{_≤_, _+_, _*_};
 ghost use lib.ListN.{length};
-ghost use Rattle.sysex.specs.Forms.{programOf, versionPlace, dataPlace, dataCount, bodyLength, isIdentity, isOurs};
+ghost use Rattle.sysex.specs.Forms.{programOf, versionPlace, dataPlace, dataCount, bodyLength, isIdentity, isOurChannel};
 ghost use Rattle.sysex.specs.Judging.{judgedBy, identityTests, formTests, fieldTests, dataTests, hasProgram, orderOf, formOrder, judgeOf};
 use crate::Check;
 use crate::Order;
@@ -15,18 +15,18 @@ pub(crate) const HEADER: [u8; 5] = *b"\xF0\x00\x01\x0C\x01";
 
 const REQUEST: u8 = 0;
 
+pub(crate) const PROGRAM: u8 = 0;
+
+pub(crate) const EDIT: u8 = 1;
+
+pub(crate) const ALL: u8 = 2;
+
 // The highest program, the version of a dump, the highest half byte.
 const LAST: u8 = PROGRAMS as u8 - 1;
 
 const VERSION: u8 = 0;
 
 const HALF: u8 = 0x0F;
-
-pub(crate) const PROGRAM: u8 = 0;
-
-pub(crate) const EDIT: u8 = 1;
-
-pub(crate) const ALL: u8 = 2;
 
 pub(crate) fn judged(body: &[u8], settings: Settings, size: usize) -> Order
     requires { ⌜ size ≤ 255 ⌝ }
@@ -65,14 +65,14 @@ fn is_identity(body: &[u8]) -> bool
 fn identified(settings: Settings, cc: u8) -> Order
     ensures { λ r. ⌜ r ≡ judgedBy (identityTests settings cc) (Order.Identify cc) ⌝ }
 {
-    if is_ours(settings, cc) {
+    if is_our_channel(settings, cc) {
         return Order::Identify(cc);
     }
     Order::Refused(Check::Channel(settings.channel))
 }
 
-fn is_ours(settings: Settings, cc: u8) -> bool
-    ensures { λ r. ⌜ r ≡ isOurs settings cc ⌝ }
+fn is_our_channel(settings: Settings, cc: u8) -> bool
+    ensures { λ r. ⌜ r ≡ isOurChannel settings cc ⌝ }
 {
     if cc == settings.channel {
         return true;

@@ -5,10 +5,10 @@ use Rattle.sysex.proofs.judging.identified.Statement.{statement}
 use Rattle.sysex.proofs.judging.identified.Tie as tie
 
 returns : tie.Need-returns
-returns c = search (tests, ← c .before .is-ours .ensures, c .if1 .taken)
+returns c = search (tests, ← c .before .is-our-channel .ensures, c .if1 .taken)
 
 returns-2 : tie.Need-returns-2
-returns-2 c = search (tests, ← c .before .is-ours .ensures, c .if1 .left)
+returns-2 c = search (tests, ← c .before .is-our-channel .ensures, c .if1 .left)
 
 pub identified-spec : {M : Type 1} → statement M
 identified-spec =
