@@ -137,9 +137,9 @@ CHECKS = (
           'opcode 00 or 01, then type 00, 01 or 02'),
     Check(13, 'length', has_length, '{0.length} bytes'),
     Check(14, 'program', has_program, 'at most 0x23 (9D)'),
-    Check(15, 'version', has_version, '0'),
+    Check(15, 'version', has_version, '0x00'),
     Check(16, 'half bytes', has_halves, 'at most 0x0F'),
-    Check(22, 'channel', is_for_us, '0 or 0x7F'),
+    Check(22, 'channel', is_for_us, '0x00 or 0x7F'),
 )
 
 

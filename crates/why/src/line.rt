@@ -52,7 +52,7 @@ fn failed(check: Check) {
         }
         Check::Version(right) => {
             text(b"version\t");
-            number(right as u16);
+            hex(right);
         }
         Check::HalfBytes(highest) => {
             text(b"half bytes\t");
@@ -60,7 +60,7 @@ fn failed(check: Check) {
         }
         Check::Channel(ours) => {
             text(b"channel\t");
-            number(ours as u16);
+            hex(ours);
             text(b" or 0x7F");
         }
     }
@@ -80,7 +80,12 @@ fn bytes(count: u16) {
 }
 
 fn at_most(byte: u8) {
-    text(b"at most 0x");
+    text(b"at most ");
+    hex(byte);
+}
+
+fn hex(byte: u8) {
+    text(b"0x");
     text(&[DIGITS[byte as usize / 16], DIGITS[byte as usize % 16]]);
 }
 
