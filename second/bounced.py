@@ -1,4 +1,4 @@
-"""Messages for the program why: accepted ones, and all ways to bounce."""
+"""Messages for the program why: accepted ones, and bounced ones."""
 
 from functools import reduce
 from itertools import combinations

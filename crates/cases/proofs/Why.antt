@@ -1,8 +1,8 @@
--- What Req 02 asks for, on messages that come back: what becomes of each, a reason with what its check expected, or what was done.
+-- What Req 02 asks for, on messages that come back and on some that are right: the check that fails, with what it expects, or what is done.
 use Prim.Native.Nat.{ℕ}
 use mathlib.Core.List.{List, [], _∷_, _++_, map}
 use mathlib.Core.Path.{_≡_, refl}
-use lib.ListN.{replicate, set, take}
+use lib.ListN.{set, take}
 use Rattle.sysex.specs.declared.Order.{Order}
 use Rattle.sysex.specs.declared.Order.the-variants.{Identify, SendProgram, SendAll, StoreProgram, StoreAll, Refused}
 use Rattle.sysex.specs.declared.Check.the-variants.{TooLong, Ours, OpcodeAndType, Length, Program, Version, HalfBytes, Channel}
@@ -45,8 +45,9 @@ told =
     (every ++ (0x0A ∷ [])) tells Refused (TooLong 5193) ∷
     -- another unit's
     set one 4 0x02 tells Refused Ours ∷
-    -- each other check
+    -- nothing at all
     [] tells Refused Ours ∷
+    -- each other check, and the length of another type
     set one 6 3 tells Refused OpcodeAndType ∷
     set (requestMessage All) 6 0 tells Refused (Length 9) ∷
     set one 7 0x24 tells Refused (Program 0x23) ∷

@@ -92,7 +92,7 @@ expected message check first =
       )),
     )
 
--- "input of any length": one byte more than the longest message is enough to judge by
+-- The first 5,194 bytes say it: one byte more than the longest message is enough to judge by.
 pub first-bytes : (message : List ℕ) → reasonOf (take (longest size + 1) message) ≡ reasonOf message
 first-bytes message = go (leb (length message) (longest size + 1)) refl
   where

@@ -13,7 +13,7 @@ use Rattle.framing.specs.declared.Event.{Event}
 use Rattle.framing.specs.Receiver.{soundOf}
 use Rattle.framing.specs.Bytes.{stepOf}
 use Rattle.framing.proofs.Stands.{fresh-sound}
-use Rattle.sockets.specs.Framer.{Happening, Framer, SysEx, Idle}
+use Rattle.sockets.specs.Framer.{Happening, Framer, Idle}
 use Rattle.sockets.specs.Framer as happening
 use Rattle.sockets.specs.Calls.{Socket, S0, S1, Byte, Direct, Finish, FromSocket, FromDirect, finishes}
 use Rattle.sockets.specs.Box.{Lent, LentDirect, Lawful, CallsOf, AnswersOf, sentOf, finishedBy, turnedAway, effect}
@@ -32,7 +32,6 @@ use Rattle.sysex.specs.Forms.{longest}
 use Rattle.sysex.specs.Numbers.{numberOf, lengthOf}
 use Rattle.sysex.specs.Carrying.{Outcome, Left, left, leaves}
 use Rattle.podbox.specs.Settings.{size, isValid}
-use Rattle.podbox.specs.Messages.{carry}
 use Rattle.podbox.specs.Whole.{messageDoes, wholeOf}
 use Rattle.podbox.specs.Take.{TookByte, took, limit, carried, happeningDoes, stepDoes, readyDoes, takeOf}
 use Rattle.podbox.specs.Box.{State, stateOf, plainAnswer, refusalOf, refusalWhole, boxRules, lentOf, doneOf, lentWhole, doneWhole}

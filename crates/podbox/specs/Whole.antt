@@ -26,7 +26,7 @@ isFramed message =
 abbrev pub bodyOf : List ℕ → List ℕ
 bodyOf message = take (length message - 1) message
 
--- The checks of a message, in their order: "10 if over 5,193 bytes, then 11 .., then as above". 11 is one check, for the frame
+-- The checks of a message, in their order: "10 if over 5,193 bytes, then 11 ..; then as above". 11 is one check, for the frame
 -- and for the identity form or the header.
 abbrev pub messageTests : Settings → List ℕ → List (Test Check)
 messageTests settings message =

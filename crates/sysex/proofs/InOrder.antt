@@ -1,4 +1,5 @@
 -- The order of tests, said once for any list of them: a refusal is that of the test that fails where every earlier one holds.
+-- Then the numbers of checks and of orders.
 use Prim.Native.Nat.{ℕ, _≤_}
 use lib.Dec.{eqb}
 use mathlib.Core.Bool.{Bool, true, false, cond}
@@ -52,7 +53,7 @@ pub first-named : {Name : Type 0} (Q : Name → Type 0) {ts : List (Test Name)} 
 first-named Q (here t e) n = n .0
 first-named Q (later t e f) n = first-named Q f (n .1 e)
 
--- whatever holds of what stands behind the tests, and of what the first that fails makes of it
+-- whatever holds of what stands behind the tests, and of what the first that fails makes of it, holds of the tests in front of it
 pub tested-cases : {Name A : Type 0} (P : A → Type 0) (ts : List (Test Name)) (failed : Name → A) (x : A)
     → (AllHold ts → P x) → ((name : Name) → FirstToFail ts name → P (failed name)) → P (tested ts failed x)
 tested-cases {Name} P ts failed x when-passed when-failed =

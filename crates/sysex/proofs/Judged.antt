@@ -1,4 +1,4 @@
--- What holds of a body that passes every test.
+-- What holds of a body that begins with the header and passes every test.
 use Prim.Native.Nat.{ℕ, _≤_}
 use mathlib.Core.Bool.{true, false, _&&_}
 use mathlib.Core.List.{List}
@@ -12,7 +12,7 @@ use Rattle.sysex.specs.Forms.{header, begins, opcodeOf, typeOf, programO
 use Rattle.sysex.specs.Judging.{hasProgram, dataTests, formTests}
 use Rattle.sysex.proofs.InOrder.{AllHold}
 
--- a body that passes every test
+-- a body that begins with the header and passes every test
 pub record Right (size : ℕ) (body : List ℕ) : Type 0 where
   pub ours : begins header body ≡ true
   pub long : 7 ≤ length body

@@ -1,5 +1,5 @@
 -- What the judge answers, with what it says of the body: an order is given for a body of its format, and for no other.
-use Prim.Native.Nat.{ℕ, _+_, _*_, _≤_}
+use Prim.Native.Nat.{ℕ, _+_, _*_}
 use mathlib.Core.Bool.{true, false, _&&_, false≢true}
 use mathlib.Core.List.{List, [], _∷_, _++_}
 use mathlib.Core.Path.{_≡_, refl, sym, ap, _∙_}
@@ -10,7 +10,7 @@ use borrow.Author.Tests.{eqb-true, eqb-false, leb-true}
 use Rattle.ground.specs.Lists.{allAtMost}
 use Rattle.ground.proofs.Lists.{drop-one, drop-two}
 use Rattle.ground.proofs.Tests.{both, by}
-use Rattle.halves.specs.HalfBytes.{split, join, allHalves}
+use Rattle.halves.specs.HalfBytes.{split, join}
 use Rattle.halves.proofs.Laws.{length-split, length-join, join-bytes, split-halves, split-join}
 use Rattle.sysex.specs.declared.Settings.{Settings}
 use Rattle.sysex.specs.declared.Check.{Check}

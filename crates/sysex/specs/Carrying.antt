@@ -13,7 +13,7 @@ use Rattle.sysex.specs.declared.Order.the-variants as order
 use Rattle.sysex.specs.declared.Answer.{Answer}
 use Rattle.sysex.specs.declared.Answer.the-variants.{Stored, Sent, Refused}
 use Rattle.sysex.specs.Numbers.{checkNumber}
-use Rattle.sysex.specs.Memory.{programPlace, editPlace, allSize, memorySize, partOf, putPart}
+use Rattle.sysex.specs.Memory.{lastProgram, programPlace, editPlace, allSize, memorySize, partOf, putPart}
 use Rattle.sysex.specs.Forms.{program, edit, all, dataPlace, longest, dumpOf, identityOf}
 use Rattle.sysex.specs.Judging.{judgeOf}
 
@@ -83,10 +83,10 @@ HasData type count body = (length body ≡ dataPlace type + 2 * count) × (allHa
 
 abbrev pub Fits : ℕ → Order → List ℕ → Type 0
 Fits size (order.Identify cc) body = Unit {0}
-Fits size (order.SendProgram p) body = p ≤ 0x23
+Fits size (order.SendProgram p) body = p ≤ lastProgram
 Fits size order.SendEdit body = Unit {0}
 Fits size order.SendAll body = Unit {0}
-Fits size (order.StoreProgram p) body = (p ≤ 0x23) × HasData program size body
+Fits size (order.StoreProgram p) body = (p ≤ lastProgram) × HasData program size body
 Fits size order.StoreEdit body = HasData edit size body
 Fits size order.StoreAll body = HasData all (allSize size) body
 Fits size (order.Refused check) body = Unit {0}

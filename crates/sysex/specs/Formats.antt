@@ -9,7 +9,7 @@ use Rattle.halves.specs.HalfBytes.{split}
 use Rattle.sysex.specs.declared.Settings.{Settings}
 use Rattle.sysex.specs.declared.Order.{Order}
 use Rattle.sysex.specs.declared.Order.the-variants.{SendProgram, SendEdit, SendAll, StoreProgram, StoreEdit, StoreAll}
-use Rattle.sysex.specs.Memory.{programPlace, editPlace, allSize}
+use Rattle.sysex.specs.Memory.{lastProgram, programPlace, editPlace, allSize}
 use Rattle.sysex.specs.Forms.{header, request, dump, program, edit, all, version, isOurChannel}
 
 -- what a dump or a request names: one program, the edit buffer, all programs
@@ -41,7 +41,7 @@ countFor size All = allSize size
 
 -- the program is one of the 36
 abbrev pub There : Target → Type 0
-There (One p) = p ≤ 0x23
+There (One p) = p ≤ lastProgram
 There Edit = Unit {0}
 There All = Unit {0}
 

@@ -1,5 +1,5 @@
 -- "A finished SysEx is tested 10, 11, 12, 13, 14, 15, 16": from 11 on, where its length is known to be in bounds.
--- The tests are one list, and the judge and the reason that is given for a refusal both go by it.
+-- Behind 11 they are one list (furtherTests), and the judge and the reason for a refusal both go by it.
 use Prim.Native.Nat.{ℕ}
 use mathlib.Core.Bool.{Bool, true, cond, _&&_, _||_}
 use mathlib.Core.List.{List, [], _∷_}

@@ -47,7 +47,7 @@ fn begin(kind: u8, pp: &[u8], reply: &mut [u8]) -> usize
     bytes::write(&[1, kind], reply, 5);
     bytes::write(pp, reply, 7);
     let version = 7 + pp.len();
-    bytes::write(&[0], reply, version);
+    bytes::write(&[judging::VERSION], reply, version);
     version + 1
 }
 

@@ -21,10 +21,10 @@ pub(crate) const EDIT: u8 = 1;
 
 pub(crate) const ALL: u8 = 2;
 
-// The highest program, the version of a dump, the highest half byte.
-const LAST: u8 = PROGRAMS as u8 - 1;
+pub(crate) const VERSION: u8 = 0;
 
-const VERSION: u8 = 0;
+// The highest program, and the highest half byte.
+const LAST: u8 = PROGRAMS as u8 - 1;
 
 const HALF: u8 = 0x0F;
 

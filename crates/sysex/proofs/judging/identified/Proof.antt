@@ -1,4 +1,4 @@
--- The test is that of `identifyOf`.
+-- The test is that of `identityTests`.
 use Rattle.ground.proofs.Tests.{tests}
 use borrow.Author.Needs.{needs}
 use Rattle.sysex.proofs.judging.identified.Statement.{statement}
