@@ -34,7 +34,7 @@ messageTests settings message =
     ∷ test Ours (isFramed message && hasForm (bodyOf message))
     ∷ furtherTests size settings (bodyOf message)
 
--- what a message asks for, or the first check that fails
+-- what a message asks for, or the first check that fails; and what it does
 unfoldable pub messageOrder : Settings → List ℕ → Order
 messageOrder settings message = judgedBy (messageTests settings message) (bodyOrder (bodyOf message))
 

@@ -31,7 +31,7 @@ tested (t ∷ ts) failed x = cond (t .holds) (tested ts failed x) (failed (t .na
 abbrev pub judgedBy : List (Test Check) → Order → Order
 judgedBy tests order = tested tests Refused order
 
--- 11 "not ours": "Any other 7E message is 11. All the rest begins F0 00 01 0C 01, else 11, too short included."
+-- 11 "not ours": "Any other 7E message is 11." "All the rest begins F0 00 01 0C 01, else 11, too short included."
 unfoldable pub hasForm : List ℕ → Bool
 hasForm body = isIdentity body || begins header body
 
@@ -89,5 +89,6 @@ formOrder body = orderOf (opcodeOf body) (typeOf body) (programOf body)
 unfoldable pub bodyOrder : List ℕ → Order
 bodyOrder body = cond (isIdentity body) (Identify (getD body 2 0)) (formOrder body)
 
+-- the judge: what a body asks for, or the first check that fails
 unfoldable pub judgeOf : ℕ → Settings → List ℕ → Order
 judgeOf size settings body = judgedBy (testsOf size settings body) (bodyOrder body)

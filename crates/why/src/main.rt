@@ -1,33 +1,80 @@
 // One message from standard input, handed whole to a fresh box: the line that says what becomes of it.
 mod line;
 
+ghost use Prim.Native.Nat.{_≤_};
+ghost use mathlib.Core.List.{[], _∷_};
+ghost use lib.ListN.{length};
+ghost use Rattle.why.specs.Kept.{Kept};
+use libc::STDERR_FILENO;
 use libc::STDIN_FILENO;
-use sysex::Order;
 
 // A byte more than the longest message: one that fills this is too long, whatever follows.
 const SIZE: usize = podbox::LONGEST + 1;
 
+// How many bytes of the input are kept, or that it could not be read.
+enum Input {
+    Kept(usize),
+    Failed,
+}
+
 fn main() {
     let mut message = [0u8; SIZE];
-    line::print(reason(&mut message));
-}
-
-fn reason(message: &mut [u8]) -> Order {
-    let count = io::read_full(STDIN_FILENO, message);
-    if SIZE <= count {
-        let mut part = io::large_buffer();
-        pass_over(&mut part);
-    }
-    podbox::reason(&message[..count])
-}
-
-// The rest of the input is read to its end, so that whoever writes it is not cut off. A proved loop has to end, and
-// nothing says that an input does: so its turns are counted, up to a number that no run reaches.
-fn pass_over(part: &mut [u8]) {
-    for _ in 0..u64::MAX {
-        let got = libc::read(STDIN_FILENO, part);
-        if io::count(got, part) == 0 {
-            return;
+    let mut part = io::large_buffer();
+    let input = read_all(&mut message, &mut part);
+    match input {
+        Input::Kept(count) => tell(&message, count),
+        Input::Failed => {
+            io::write_all(STDERR_FILENO, b"why: standard input cannot be read\n");
         }
     }
+}
+
+// What fills the buffer is told whole: it is too long.
+fn tell(message: &[u8], kept: usize) {
+    if kept < message.len() {
+        line::print(podbox::reason(&message[..kept]));
+        return;
+    }
+    line::print(podbox::reason(message));
+}
+
+// The input is read to its end, so that whoever writes it is not cut off. A proved loop has to end, and nothing says that
+// an input does: so its turns are counted, up to a number that no run reaches.
+fn read_all(message: &mut [u8], part: &mut [u8]) -> Input {
+    let mut kept = 0;
+    for _ in 0..u64::MAX {
+        let got = libc::read(STDIN_FILENO, part);
+        if got < 0 {
+            return Input::Failed;
+        }
+        let count = io::count(got, part);
+        if count == 0 {
+            return Input::Kept(kept);
+        }
+        kept = keep(message, kept, &part[..count]);
+    }
+    Input::Failed
+}
+
+// As much of a part as there is room for, behind what is kept. Returns how much is kept then.
+fn keep(message: &mut [u8], before: usize, part: &[u8]) -> usize
+    requires { ⌜ before ≤ length (now message) ⌝ }
+    ensures { λ r. ⌜ Kept r (now (message .exit)) (now (message .entry)) before (now (part .entry)) ⌝ }
+{
+    let mut kept = before;
+    for i in 0..part.len() {
+        kept = keep_one(message, kept, part[i]);
+    }
+    kept
+}
+
+fn keep_one(message: &mut [u8], kept: usize, byte: u8) -> usize
+    requires { ⌜ kept ≤ length (now message) ⌝ }
+    ensures { λ r. ⌜ Kept r (now (message .exit)) (now (message .entry)) kept (byte ∷ []) ⌝ }
+{
+    if kept < message.len() {
+        message[kept] = byte;
+        return kept + 1;
+    }
+    kept
 }
