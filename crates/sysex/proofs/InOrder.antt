@@ -44,13 +44,13 @@ all-or-first {Name} (t ∷ ts) =
     (λ e. ⊎-elim (λ a. inl (e, a)) (λ f. inr (f .0, later t e (f .1))) (all-or-first ts))
     (λ e. inr (t .name, here t e))
 
--- whatever holds of each name, where the tests before it hold, holds of the first that fails
+-- whatever holds of each name, where its test fails and those before it hold, holds of the first that fails
 abbrev pub Names : {Name : Type 0} → (Name → Type 0) → List (Test Name) → Type 0
 Names Q [] = Unit {0}
-Names Q (t ∷ ts) = Q (t .name) × (t .holds ≡ true → Names Q ts)
+Names Q (t ∷ ts) = (t .holds ≡ false → Q (t .name)) × (t .holds ≡ true → Names Q ts)
 
 pub first-named : {Name : Type 0} (Q : Name → Type 0) {ts : List (Test Name)} {name : Name} → FirstToFail ts name → Names Q ts → Q name
-first-named Q (here t e) n = n .0
+first-named Q (here t e) n = n .0 e
 first-named Q (later t e f) n = first-named Q f (n .1 e)
 
 -- whatever holds of what stands behind the tests, and of what the first that fails makes of it, holds of the tests in front of it

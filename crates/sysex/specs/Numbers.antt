@@ -24,7 +24,7 @@ lengthOf Applied = 0
 lengthOf Cut = 0
 lengthOf (Refused number) = 0
 
--- "10 SysEx too long", "11 not ours", and so on: the number of a check that fails
+-- 10 "SysEx too long", 11 "not ours", and so on: the number of a check that fails
 abbrev pub checkNumber : Check → ℕ
 checkNumber (check.TooLong most) = 10
 checkNumber check.Ours = 11
@@ -35,7 +35,7 @@ checkNumber (check.Version right) = 15
 checkNumber (check.HalfBytes highest) = 16
 checkNumber (check.Channel ours) = 22
 
--- "1 dump stored", "2 reply written": the number of a message with this order
+-- 1 "dump stored", 2 "reply written": the number of a message with this order
 abbrev pub orderNumber : Order → ℕ
 orderNumber (order.Identify cc) = 2
 orderNumber (order.SendProgram p) = 2
