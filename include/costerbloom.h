@@ -3,7 +3,8 @@
  * The caller owns every buffer; no call keeps a pointer, allocates, or waits. Lent at least: memory 2,664 bytes (36
  * programs of 72 bytes, then the edit buffer; fresh memory is all zero), a receive buffer of 5,193 bytes for each
  * socket, and a reply buffer of 5,193. More may be lent; the rest is not touched. What a call is lent must not
- * overlap, no other call may use it meanwhile, and no pointer may be null, not even with a length of 0.
+ * overlap, no other call may use it meanwhile, and no pointer may be null, not even with a length of 0. A call takes
+ * less than 2 KB of stack.
  *
  * Settings: channel 0 to 15, omni 0 or 1, four revision bytes of at most 0x7F.
  */

@@ -5,3 +5,4 @@ pub mod Back
 pub mod Controllers
 pub mod RoundTrips
 pub mod OneResult
+pub mod Columns

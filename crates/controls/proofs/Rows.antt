@@ -47,7 +47,7 @@ implied : (a b : Bool) → cond a b true ≡ true → a ≡ true → b ≡ true
 implied true b t e = t
 implied false b t e = absurd (false≢true e)
 
-fact : (test : ℕ → Row → Bool) → ((key : ℕ) → test key unlisted ≡ true) → all unlisted test rows ≡ true
+pub fact : (test : ℕ → Row → Bool) → ((key : ℕ) → test key unlisted ≡ true) → all unlisted test rows ≡ true
     → (controller : ℕ) → test controller (rowOf controller) ≡ true
 unfolding rowOf
 fact test o t controller = found unlisted test o rows t controller
@@ -89,7 +89,7 @@ module _ (controller : ℕ) where
       let r = rowOf controller in
       let p = both (leb (r .place + r .width) programSize) (leb (r .width) 3 && leb (r .highest) 127) (fact (λ _. isSane) (λ _. refl) refl controller) in
       let q = both (leb (r .width) 3) (leb (r .highest) 127) (p .1) in
-      record { inside = leb-true _ _ (p .0); narrow = leb-true _ _ (q .0); low = leb-true _ _ (q .1) }
+      record { inside = leb-true _ _ (p .0); narrow = leb-true _ _ (q .0); low = leb-true _ _ (q .1); of-table = (controller, refl) }
 
   -- what the test says of every row holds of the controller's
   numbers : (test : Row → ℕ → Bool) → at-each test unlisted ≡ true → all unlisted (λ _. at-each test) rows ≡ true

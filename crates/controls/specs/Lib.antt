@@ -1,5 +1,6 @@
 pub mod Formulas
 pub mod Table
+pub mod Sheet
 pub mod Fields
 pub mod Answers
 pub mod Scaling

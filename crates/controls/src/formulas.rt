@@ -1,10 +1,12 @@
 // The formulas, and the way back from a stored number.
 ghost use mathlib.Core.Path.{_≡_};
 ghost use Prim.Native.Nat.{_≤_, _+_};
-ghost use Rattle.controls.specs.Formulas.{numberBy, numberFor, mOf, nextFor};
+ghost use Rattle.controls.specs.Formulas.{numberFor, mOf, nextFor};
+ghost use Rattle.controls.specs.Table.{Sane};
 ghost use Rattle.controls.specs.Showing.{smallest, sevenBits, shownOf};
 use crate::Reading;
 use crate::Row;
+use crate::sheet::on_sheet;
 
 pub(crate) const V_64: u8 = 0;
 
@@ -30,11 +32,13 @@ pub(crate) const V_22_100: u8 = 10;
 
 pub(crate) const V_25: u8 = 11;
 
-// The number that a formula gives for v.
-fn number_by(formula: u8, v: u16) -> u16
+// The row's number for v: by its formula, or from its formula's column of the sheet.
+pub(crate) fn number_for(row: Row, v: u16) -> u16
+    requires { ⌜ Sane row ⌝ }
     requires { ⌜ v ≤ 127 ⌝ }
-    ensures { λ r. ⌜ r ≡ numberBy formula v ⌝ }
+    ensures { λ r. ⌜ r ≡ numberFor row v ⌝ }
 {
+    let formula = row.formula;
     if formula == V_64 {
         return v / 64;
     }
@@ -45,37 +49,27 @@ fn number_by(formula: u8, v: u16) -> u16
         return v;
     }
     if formula == THRESHOLD {
-        return (127 - v) * 194 / 256;
+        return on_sheet(0, v);
     }
     if formula == V_22 {
         return v / 22;
     }
     if formula == V_50 {
-        return v * 50;
+        return on_sheet(1, v);
     }
     if formula == V_256_104 {
-        return v * 256 / 104;
+        return on_sheet(2, v);
     }
     if formula == V_256_42 {
-        return v * 256 / 42;
+        return on_sheet(3, v);
     }
     if formula == V_22_100 {
-        return v * 22 + 100;
+        return on_sheet(4, v);
     }
     if formula == V_25 {
-        return v * 25;
+        return on_sheet(5, v);
     }
     0
-}
-
-// The row's number for v: its formula's, raised to the row's least.
-pub(crate) fn number_for(row: Row, v: u16) -> u16
-    requires { ⌜ v ≤ 127 ⌝ }
-    ensures { λ r. ⌜ r ≡ numberFor row v ⌝ }
-{
-    let number = number_by(row.formula, v);
-    let least = row.least as u16;
-    if number < least { least } else { number }
 }
 
 // m of a stored number.
@@ -88,6 +82,7 @@ fn m_of(stored: u32) -> u32
 
 // The number to store for v where `stored` stands.
 pub(crate) fn next(row: Row, v: u16, stored: u32) -> u32
+    requires { ⌜ Sane row ⌝ }
     requires { ⌜ v ≤ 127 ⌝ }
     ensures { λ r. ⌜ r ≡ nextFor row v stored ⌝ }
 {
@@ -103,7 +98,7 @@ pub(crate) fn next(row: Row, v: u16, stored: u32) -> u32
 
 // The value that shows a stored number.
 pub(crate) fn shown(row: Row, stored: u32) -> Reading
-    requires { ⌜ row .highest ≤ 127 ⌝ }
+    requires { ⌜ Sane row ⌝ }
     ensures { λ r. ⌜ r ≡ shownOf row stored ⌝ }
 {
     let m = m_of(stored);
@@ -130,7 +125,7 @@ fn seven_bits(stored: u32, m: u32, bits: u32) -> Reading
 
 // The first value up to the row's highest that gives the stored number.
 fn first(row: Row, stored: u32) -> Reading
-    requires { ⌜ row .highest ≤ 127 ⌝ }
+    requires { ⌜ Sane row ⌝ }
     ensures { λ r. ⌜ r ≡ smallest row stored (row .highest + 1) 0 ⌝ }
 {
     let highest = row.highest as u16;

@@ -1,11 +1,11 @@
 // The 49 controllers: a controller to its stored number, and a stored number back to its controller.
 mod fields;
 mod formulas;
+mod sheet;
 mod table;
 
 pub use table::row_of;
 ghost use mathlib.Core.Path.{_≡_};
-ghost use Prim.Native.Nat.{_≤_};
 ghost use Rattle.controls.specs.Table.{Sane};
 ghost use Rattle.controls.specs.Scaling.{scaleRow, scaleOf};
 ghost use Rattle.controls.specs.Applying.{left, applyRow, applyOf};
@@ -45,7 +45,7 @@ pub fn scale(controller: u32, value: u32) -> Reading
 }
 
 fn scale_row(row: Row, value: u32) -> Reading
-    requires { ⌜ row .highest ≤ 127 ⌝ }
+    requires { ⌜ Sane row ⌝ }
     ensures { λ r. ⌜ r ≡ scaleRow row value ⌝ }
 {
     if row.width == 0 {

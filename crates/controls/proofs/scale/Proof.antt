@@ -6,7 +6,7 @@ use Rattle.controls.proofs.scale.Statement.{statement}
 use Rattle.controls.proofs.scale.Tie as tie
 
 scale-row-requires : tie.Need-scale-row-requires
-scale-row-requires c κs = rw (c .row-of .ensures) (row-sane _ .low)
+scale-row-requires c κs = rw (c .row-of .ensures) (row-sane _)
 
 returns : tie.Need-returns
 unfolding scaleOf

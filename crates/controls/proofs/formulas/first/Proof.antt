@@ -18,7 +18,7 @@ loop-holds : tie.Need-loop-holds Inv-loop μ-loop
 loop-holds c = let highest = c .before .args .row .highest in let all : highest + 1 - 0 ≡ highest + 1 = omega arith in (search needs, rw all)
 
 number-for-requires : tie.Need-number-for-requires Inv-loop μ-loop
-number-for-requires c κs = omega arith
+number-for-requires c κs = (search needs, omega arith)
 
 returns : tie.Need-returns Inv-loop μ-loop
 returns c = look-stop _ _ _ _ _ (c .before .before .before .loop .inv .1) (c .before .before .loop-test .taken) (sym (c .before .number-for .ensures) ∙ c .if1 .taken)

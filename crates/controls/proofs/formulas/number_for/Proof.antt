@@ -1,23 +1,32 @@
--- The test is a maximum.
+-- The tests are those of `numberBy`, in its order.
 use native.Mathlib.Omega.{arith}
+use Rattle.ground.proofs.Tests.{tests}
+use Rattle.controls.specs.Formulas.{numberBy}
+use Rattle.controls.specs.Table.{rows, rowOf}
+use Rattle.controls.proofs.Columns.{by-formula, at-formula, at-controller}
 use borrow.Author.Needs.{needs}
-use Rattle.controls.specs.Formulas.{numberFor}
 use Rattle.controls.proofs.formulas.number_for.Statement.{statement}
 use Rattle.controls.proofs.formulas.number_for.Tie as tie
 
-returns : tie.Need-returns
-unfolding numberFor
-returns c = omega (arith, c .before .before .number-by .ensures)
-
-returns-2 : tie.Need-returns-2
-unfolding numberFor
-returns-2 c = omega (arith, c .before .before .number-by .ensures)
-
 pub number-for-spec : {M : Type 1} → statement M
+unfolding numberBy rowOf rows
 number-for-spec =
     tie.close
     (tie.spec
+    (λ c. at-formula _ _ _ (search needs) _ (c .if1 .taken) (omega arith))
+    (λ c. at-formula _ _ _ (search needs) _ (c .if2 .taken) (omega arith))
+    (λ c. at-formula _ _ _ (search needs) _ (c .if3 .taken) (omega arith))
     (λ c κs. search needs)
-    (λ c. search needs)
-    returns
-    returns-2)
+    (λ c. at-controller _ _ _ (search needs) 23 (c .before .if4 .taken) (c .on-sheet .ensures))
+    (λ c. at-formula _ _ _ (search needs) _ (c .if5 .taken) (omega arith))
+    (λ c κs. search needs)
+    (λ c. at-controller _ _ _ (search needs) 51 (c .before .if6 .taken) (c .on-sheet2 .ensures))
+    (λ c κs. search needs)
+    (λ c. at-controller _ _ _ (search needs) 52 (c .before .if7 .taken) (c .on-sheet3 .ensures))
+    (λ c κs. search needs)
+    (λ c. at-controller _ _ _ (search needs) 54 (c .before .if8 .taken) (c .on-sheet4 .ensures))
+    (λ c κs. search needs)
+    (λ c. at-controller _ _ _ (search needs) 56 (c .before .if9 .taken) (c .on-sheet5 .ensures))
+    (λ c κs. search needs)
+    (λ c. at-controller _ _ _ (search needs) 58 (c .before .if10 .taken) (c .on-sheet6 .ensures))
+    (λ c. search (tests, by-formula)))

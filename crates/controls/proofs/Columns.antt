@@ -1,0 +1,71 @@
+-- Laws of the sheet: its rule at each place, and which rows' numbers it has.
+use Prim.Native.Nat.{ℕ, _+_, _*_, _/_, _%_, _≤_, max}
+use mathlib.Core.Bool.{Bool, true, false, cond, false≢true}
+use mathlib.Core.Path.{_≡_, refl, _∙_}
+use native.Mathlib.Omega.{arith}
+use lib.Dec.{eqb, leb}
+use lib.ListN.{getD}
+use borrow.Author.Tests.{eqb-true, leb-true, le-ltb}
+use Rattle.ground.proofs.Computed.{column, column-at, every-at}
+use Rattle.controls.specs.declared.Row.{Row}
+use Rattle.controls.specs.declared.Reading.the-variants.{Value}
+use Rattle.controls.specs.Formulas.{m-upper, m-lower, v×50, v×256/42, v×25, numberBy, numberFor}
+use Rattle.controls.specs.Table.{Sane, rows, rowOf}
+use Rattle.controls.specs.Sheet.{columns}
+use Rattle.controls.specs.Scaling.{scaleOf}
+use Rattle.controls.proofs.Rows.{fact, row-sane}
+
+-- what stands at place k: column after column, the numbers of the column's controller
+abbrev pub sheetRule : ℕ → ℕ
+sheetRule k = numberFor (rowOf (getD columns (k / 128) 0)) (k % 128)
+
+-- the rule at a column and a value
+pub in-column : (c v : ℕ) → c ≤ 5 → v ≤ 127 → getD (column sheetRule 768) (128 * c + v) 0 ≡ numberFor (rowOf (getD columns c 0)) v
+in-column c v h l =
+    let is-c : (128 * c + v) / 128 ≡ c = omega arith in
+    let is-v : (128 * c + v) % 128 ≡ v = omega arith in
+    rw (is-c, is-v) at (column-at sheetRule 768 (128 * c + v) (omega arith))
+
+-- the least number of the rows with a formula: three have one
+abbrev pub leastOf : ℕ → ℕ
+leastOf formula =
+    cond (eqb formula v×50) (rowOf 51 .least)
+    (cond (eqb formula v×256/42) (rowOf 54 .least)
+    (cond (eqb formula v×25) (rowOf 58 .least)
+    0))
+
+least-of : (controller : ℕ) → rowOf controller .least ≡ leastOf (rowOf controller .formula)
+unfolding rows rowOf
+least-of controller = eqb-true _ _ (fact (λ _ r. eqb (r .least) (leastOf (r .formula))) (λ _. refl) refl controller)
+
+-- a row's number goes by its formula
+pub by-formula : (r : Row) (v : ℕ) → Sane r → numberFor r v ≡ max (numberBy (r .formula) v) (leastOf (r .formula))
+unfolding numberFor
+by-formula r v sane = rw (sane .of-table .1) (rw (least-of (sane .of-table .0)))
+
+module _ (r : Row) (v number : ℕ) (sane : Sane r) where
+  pub at-formula : (formula : ℕ) → r .formula ≡ formula → number ≡ max (numberBy formula v) (leastOf formula) → number ≡ numberFor r v
+  at-formula formula is e = e ∙ (rw (by-formula r v sane, is))
+
+  -- so it is that of any controller with its formula
+  pub at-controller : (controller : ℕ) → r .formula ≡ rowOf controller .formula → number ≡ numberFor (rowOf controller) v → number ≡ numberFor r v
+  at-controller controller is e = at-formula (rowOf controller .formula) is (e ∙ by-formula (rowOf controller) v (row-sane controller))
+
+-- Scaling takes every value of a column's controller.
+passed : (a b : Bool) → cond a false b ≡ true → (a ≡ false) × (b ≡ true)
+passed true b t = absurd (false≢true t)
+passed false b t = (refl, t)
+
+abbrev scales : Row → Bool
+scales r = cond (eqb (r .width) 0) false (cond (eqb (r .formula) m-upper) false (cond (eqb (r .formula) m-lower) false (leb 127 (r .highest))))
+
+pub scaled-in : (c v : ℕ) → c ≤ 5 → v ≤ 127 → scaleOf (getD columns c 0) v ≡ Value (numberFor (rowOf (getD columns c 0)) v)
+unfolding scaleOf rows rowOf
+scaled-in c v h l =
+    let r = rowOf (getD columns c 0) in
+    let all = every-at (λ k. scales (rowOf (getD columns k 0))) 6 refl c (omega arith) in
+    let some = passed (eqb (r .width) 0) _ all in
+    let not-upper = passed (eqb (r .formula) m-upper) _ (some .1) in
+    let not-lower = passed (eqb (r .formula) m-lower) _ (not-upper .1) in
+    let highest = leb-true 127 (r .highest) (not-lower .1) in
+    rw (some .0, not-upper .0, not-lower .0, le-ltb (r .highest) v (omega arith))
