@@ -96,12 +96,22 @@ ONCE from_panel(whole_call *whole, box *b)
     return answers;
 }
 
-ONCE shown_back(back_call *back, box *b)
+static inline uint64_t shown(back_call *back, box *b, uint32_t controller)
 {
     uint64_t answers = 0;
     for (int i = 0; i < SHOWN; i++)
-        answers = 3 * answers + back(b->memory, sizeof b->memory, 13);
+        answers = 3 * answers + back(b->memory, sizeof b->memory, controller);
     return answers;
+}
+
+ONCE shown_back(back_call *back, box *b)
+{
+    return shown(back, b, 13);
+}
+
+ONCE shown_of_sheet(back_call *back, box *b)
+{
+    return shown(back, b, 23);
 }
 
 #define SIDES(name, kind)                                                                                              \
@@ -122,6 +132,7 @@ SIDES(real_time, take)
 SIDES(last_byte, take)
 SIDES(from_panel, whole)
 SIDES(shown_back, back)
+SIDES(shown_of_sheet, back)
 
 /* ---- what is fed */
 
@@ -167,11 +178,12 @@ static void with_dump(box *b)
     __builtin_memcpy(b->receive, dump, sizeof dump - 1);
 }
 
-/* Byte 9 holds what no value of controller 13 gives: every value is in vain. */
+/* Bytes 9 and 16 hold what no value of controllers 13 and 23 gives: every value is in vain. */
 static void with_none(box *b)
 {
+    uint8_t *edit = b->memory + COSTERBLOOM_MEMORY - COSTERBLOOM_PROGRAM;
     fresh(b);
-    b->memory[COSTERBLOOM_MEMORY - COSTERBLOOM_PROGRAM + 9] = 0xFF;
+    edit[9] = edit[16] = 0xFF;
 }
 
 static void inside(box *b)
@@ -190,6 +202,7 @@ static const work WORKS[] = {
     {"one call: F7 of a long dump", "call", CALLS, with_dump, last_byte_library, last_byte_plain},
     {"one call: a long dump, panel", "call", CALLS, fresh, from_panel_library, from_panel_plain},
     {"one call: shown back, none found", "call", SHOWN, with_none, shown_back_library, shown_back_plain},
+    {"one call: the same, of the sheet", "call", SHOWN, with_none, shown_of_sheet_library, shown_of_sheet_plain},
 };
 
 /* ---- the method */
