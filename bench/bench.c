@@ -96,7 +96,7 @@ ONCE from_panel(whole_call *whole, box *b)
     return answers;
 }
 
-static inline uint64_t shown(back_call *back, box *b, uint32_t controller)
+ONCE shown(back_call *back, box *b, uint32_t controller)
 {
     uint64_t answers = 0;
     for (int i = 0; i < SHOWN; i++)

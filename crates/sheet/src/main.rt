@@ -44,7 +44,7 @@ fn print_number(number: u16) {
     io::print_decimal(STDOUT_FILENO, number as u64);
 }
 
-// A column's number for a value, as the firmware scales it.
+// A column's number for a value, as the firmware scales it. Scaling refuses none of these.
 fn in_column(column: usize, value: u32) -> u16
     requires { ⌜ column ≤ 5 ⌝ }
     requires { ⌜ value ≤ 127 ⌝ }

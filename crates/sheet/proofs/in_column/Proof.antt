@@ -1,6 +1,6 @@
 -- Scaling refuses no value of a column, so what it answers is the number.
 use Prim.Native.Nat.{ℕ}
-use mathlib.Core.Path.{_≡_, sym, _∙_}
+use mathlib.Core.Path.{_≡_, _∙_}
 use native.Mathlib.Omega.{arith}
 use Rattle.controls.proofs.Columns.{scaled-in}
 use borrow.Author.Needs.{needs}
@@ -10,17 +10,13 @@ use Rattle.sheet.proofs.in_column.Tie as tie
 returns : tie.Need-returns
 returns c =
     let k = c .before .before .before in
-    let column = k .before .args .column in
-    let value = k .before .args .value in
-    let is = k .scale .ensures ∙ scaled-in column value (k .before .pre .0) (k .before .pre .1) in
+    let is-number = k .scale .ensures ∙ scaled-in _ _ (k .before .pre .0) (k .before .pre .1) in
     cc
 
 returns-2 : tie.Need-returns-2
 returns-2 c =
     let k = c .before .before .before in
-    let column = k .before .args .column in
-    let value = k .before .args .value in
-    let is = k .scale .ensures ∙ scaled-in column value (k .before .pre .0) (k .before .pre .1) in
+    let is-number = k .scale .ensures ∙ scaled-in _ _ (k .before .pre .0) (k .before .pre .1) in
     let z : _≡_ {A = ℕ} 0 1 = cc in
     absurd (omega arith)
 
