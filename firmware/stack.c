@@ -4,20 +4,28 @@
 
 #include "report.h"
 
-enum { MOST = 2048, PAINT = 0xA5, EDIT = COSTERBLOOM_MEMORY - COSTERBLOOM_PROGRAM };
+enum { MOST = 2048, PAINT = 0xA5, EDIT = COSTERBLOOM_MEMORY - COSTERBLOOM_PROGRAM, STORED = 1, APPLIED = 3 };
 
 static uint8_t stack[4 * MOST] __attribute__((aligned(16)));
 static uint8_t memory[COSTERBLOOM_MEMORY], receive[COSTERBLOOM_LONGEST], reply[COSTERBLOOM_LONGEST];
 static costerbloom_receiver receiver;
 
+/* What the calls did: moves that were applied, dumps that were stored. */
+static int applied, stored;
+
 /* Calls a function with the stack's end at `top`. */
 void on_stack(void (*calls)(void), uint8_t *top);
 __asm__("on_stack: push %rbp\n mov %rsp, %rbp\n mov %rsi, %rsp\n call *%rdi\n mov %rbp, %rsp\n pop %rbp\n ret");
 
-static void take(uint8_t byte)
+static uint64_t take(uint8_t byte)
 {
-    costerbloom_take(&receiver, 0, byte, 0, 0, 1, 2, 3, 4, memory, sizeof memory, receive, sizeof receive, reply,
-        sizeof reply);
+    return costerbloom_take(&receiver, 0, byte, 0, 0, 1, 2, 3, 4, memory, sizeof memory, receive, sizeof receive,
+        reply, sizeof reply);
+}
+
+static uint64_t whole(const uint8_t *message, size_t length)
+{
+    return costerbloom_whole(message, length, 0, 0, 1, 2, 3, 4, memory, sizeof memory, reply, sizeof reply);
 }
 
 /* Each controller under each effect, at the values where a search ends first and last. */
@@ -29,7 +37,7 @@ static void controllers(void)
             memory[EDIT + 46] = (uint8_t)(place / 128);
             take(0xB0);
             take(controller);
-            take(value);
+            applied += take(value) == APPLIED;
             costerbloom_scale(controller, value);
             costerbloom_back(memory, sizeof memory, controller);
         }
@@ -44,10 +52,10 @@ static void dumps(void)
     for (size_t place = 0; place < sizeof request; place++)
         take(request[place]);
     for (size_t place = 0; place < sizeof reply; place++)
-        take(reply[place]);
+        stored += take(reply[place]) == STORED;
     receive[sizeof receive - 1] = 0xF7;
-    costerbloom_whole(request, sizeof request, 0, 0, 1, 2, 3, 4, memory, sizeof memory, reply, sizeof reply);
-    costerbloom_whole(receive, sizeof receive, 0, 0, 1, 2, 3, 4, memory, sizeof memory, reply, sizeof reply);
+    whole(request, sizeof request);
+    stored += whole(receive, sizeof receive) == STORED;
 }
 
 /* How many bytes of the stack were written. */
@@ -64,8 +72,13 @@ static size_t used_by(void (*calls)(void))
 
 int main(void)
 {
-    if (used_by(controllers) < MOST && used_by(dumps) < MOST)
+    _Bool within = used_by(controllers) < MOST;
+    within &= used_by(dumps) < MOST;
+    if (applied == 0 || stored != 2)
+        say("stack: the calls did not do what they should\n");
+    else if (!within)
+        say("stack: a call takes more than the header says\n");
+    else
         return 0;
-    say("stack: a call takes more than the header says\n");
     return 1;
 }
