@@ -1,26 +1,27 @@
 -- Laws of the sheet: its rule at each place, and which rows' numbers it has.
 use Prim.Native.Nat.{ℕ, _+_, _*_, _/_, _%_, _≤_, max}
-use mathlib.Core.Bool.{Bool, true, false, cond, false≢true}
+use mathlib.Core.Bool.{Bool, false, cond}
 use mathlib.Core.Path.{_≡_, refl, _∙_}
 use native.Mathlib.Omega.{arith}
 use lib.Dec.{eqb, leb}
 use lib.ListN.{getD}
 use borrow.Author.Tests.{eqb-true, leb-true, le-ltb}
+use Rattle.ground.proofs.Tests.{past}
 use Rattle.ground.proofs.Computed.{column, column-at, every-at}
 use Rattle.controls.specs.declared.Row.{Row}
 use Rattle.controls.specs.declared.Reading.the-variants.{Value}
 use Rattle.controls.specs.Formulas.{m-upper, m-lower, v×50, v×256/42, v×25, numberBy, numberFor}
 use Rattle.controls.specs.Table.{Sane, rows, rowOf}
-use Rattle.controls.specs.Sheet.{columns}
+use Rattle.controls.specs.Sheet.{columns, onSheet}
 use Rattle.controls.specs.Scaling.{scaleOf}
 use Rattle.controls.proofs.Rows.{fact, row-sane}
 
--- what stands at place k: column after column, the numbers of the column's controller
+-- what stands at place k: column after column
 abbrev pub sheetRule : ℕ → ℕ
-sheetRule k = numberFor (rowOf (getD columns (k / 128) 0)) (k % 128)
+sheetRule k = onSheet (k / 128) (k % 128)
 
 -- the rule at a column and a value
-pub in-column : (c v : ℕ) → c ≤ 5 → v ≤ 127 → getD (column sheetRule 768) (128 * c + v) 0 ≡ numberFor (rowOf (getD columns c 0)) v
+pub in-column : (c v : ℕ) → c ≤ 5 → v ≤ 127 → getD (column sheetRule 768) (128 * c + v) 0 ≡ onSheet c v
 in-column c v h l =
     let is-c : (128 * c + v) / 128 ≡ c = omega arith in
     let is-v : (128 * c + v) % 128 ≡ v = omega arith in
@@ -51,21 +52,17 @@ module _ (r : Row) (v number : ℕ) (sane : Sane r) where
   pub at-controller : (controller : ℕ) → r .formula ≡ rowOf controller .formula → number ≡ numberFor (rowOf controller) v → number ≡ numberFor r v
   at-controller controller is e = at-formula (rowOf controller .formula) is (e ∙ by-formula (rowOf controller) v (row-sane controller))
 
--- Scaling takes every value of a column's controller.
-passed : (a b : Bool) → cond a false b ≡ true → (a ≡ false) × (b ≡ true)
-passed true b t = absurd (false≢true t)
-passed false b t = (refl, t)
-
+-- Scaling refuses no value of a column's controller.
 abbrev scales : Row → Bool
 scales r = cond (eqb (r .width) 0) false (cond (eqb (r .formula) m-upper) false (cond (eqb (r .formula) m-lower) false (leb 127 (r .highest))))
 
-pub scaled-in : (c v : ℕ) → c ≤ 5 → v ≤ 127 → scaleOf (getD columns c 0) v ≡ Value (numberFor (rowOf (getD columns c 0)) v)
+pub scaled-in : (c v : ℕ) → c ≤ 5 → v ≤ 127 → scaleOf (getD columns c 0) v ≡ Value (onSheet c v)
 unfolding scaleOf rows rowOf
 scaled-in c v h l =
     let r = rowOf (getD columns c 0) in
     let all = every-at (λ k. scales (rowOf (getD columns k 0))) 6 refl c (omega arith) in
-    let some = passed (eqb (r .width) 0) _ all in
-    let not-upper = passed (eqb (r .formula) m-upper) _ (some .1) in
-    let not-lower = passed (eqb (r .formula) m-lower) _ (not-upper .1) in
+    let some = past (eqb (r .width) 0) _ all in
+    let not-upper = past (eqb (r .formula) m-upper) _ (some .1) in
+    let not-lower = past (eqb (r .formula) m-lower) _ (not-upper .1) in
     let highest = leb-true 127 (r .highest) (not-lower .1) in
     rw (some .0, not-upper .0, not-lower .0, le-ltb (r .highest) v (omega arith))

@@ -1,7 +1,14 @@
 -- Req 03: "six columns of 128 numbers, minimums of Req 01 included".
 use Prim.Native.Nat.{ℕ}
 use mathlib.Core.List.{List, [], _∷_}
+use lib.ListN.{getD}
+use Rattle.controls.specs.Formulas.{numberFor}
+use Rattle.controls.specs.Table.{rowOf}
 
 -- "the six longer rules (threshold, times 50, 256/104, 256/42, times 22 plus 100, times 25)": a controller of each; 57 has the rule of 56
 abbrev pub columns : List ℕ
 columns = 23 ∷ 51 ∷ 52 ∷ 54 ∷ 56 ∷ 58 ∷ []
+
+-- the number in a column for v: its controller's, least number included
+abbrev pub onSheet : ℕ → ℕ → ℕ
+onSheet column v = numberFor (rowOf (getD columns column 0)) v

@@ -1,16 +1,13 @@
 // The sheet on the wall: six columns, one below the other, each with the numbers of one rule for 0 to 127.
 ghost use mathlib.Core.Path.{_≡_};
 ghost use Prim.Native.Nat.{_≤_};
-ghost use lib.ListN.{getD};
-ghost use Rattle.controls.specs.Formulas.{numberFor};
-ghost use Rattle.controls.specs.Table.{rowOf};
-ghost use Rattle.controls.specs.Sheet.{columns};
+ghost use Rattle.controls.specs.Sheet.{onSheet};
 
 // The number in a column for v.
 pub(crate) fn on_sheet(column: usize, v: u16) -> u16
     requires { ⌜ column ≤ 5 ⌝ }
     requires { ⌜ v ≤ 127 ⌝ }
-    ensures { λ r. ⌜ r ≡ numberFor (rowOf (getD columns column 0)) v ⌝ }
+    ensures { λ r. ⌜ r ≡ onSheet column v ⌝ }
 {
     SHEET[128 * column + v as usize]
 }

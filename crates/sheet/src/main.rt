@@ -1,10 +1,7 @@
 // The wall sheet: a line for each value, with the number that each of the six columns' controllers stores for it.
 ghost use mathlib.Core.Path.{_≡_};
 ghost use Prim.Native.Nat.{_≤_};
-ghost use lib.ListN.{getD};
-ghost use Rattle.controls.specs.Formulas.{numberFor};
-ghost use Rattle.controls.specs.Table.{rowOf};
-ghost use Rattle.controls.specs.Sheet.{columns};
+ghost use Rattle.controls.specs.Sheet.{onSheet};
 use controls::Reading;
 use libc::STDOUT_FILENO;
 
@@ -48,7 +45,7 @@ fn print_number(number: u16) {
 fn in_column(column: usize, value: u32) -> u16
     requires { ⌜ column ≤ 5 ⌝ }
     requires { ⌜ value ≤ 127 ⌝ }
-    ensures { λ r. ⌜ r ≡ numberFor (rowOf (getD columns column 0)) value ⌝ }
+    ensures { λ r. ⌜ r ≡ onSheet column value ⌝ }
 {
     match controls::scale(COLUMNS[column], value) {
         Reading::Value(number) => number,

@@ -1,4 +1,4 @@
--- The tests are those of `numberBy`, in its order.
+-- The tests are those of `numberBy`, in its order; what stands in a column is the number of every row with that formula.
 use native.Mathlib.Omega.{arith}
 use Rattle.ground.proofs.Tests.{tests}
 use Rattle.controls.specs.Formulas.{numberBy}
