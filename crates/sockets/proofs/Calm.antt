@@ -7,9 +7,9 @@ use Rattle.ground.proofs.Tests.{by}
 use Rattle.framing.specs.Bytes.{isRealTime}
 use Rattle.sockets.specs.Framer.{Happening, Nothing, Framer, Idle, Heard, hear, hears}
 use Rattle.sockets.specs.Calls.{Socket, Byte, Direct, ifSame, stands, bytesOf, handing, finishing, happens, finishes}
-use Rattle.sockets.specs.Box.{Rules, CallsOf, FinishesOf, AnswersOf, answerOf, finishedBy, effect}
-use Rattle.sockets.specs.History.{WorldOf, does, answersAlong}
-use Rattle.sockets.specs.Calm.{calm, calmAnswers, Calm}
+use Rattle.sockets.specs.Box.{Rules, CallsOf, FinishesOf, SaidsOf, saidOf, finishedBy, heldAfter, effect}
+use Rattle.sockets.specs.History.{WorldOf, does, saidsAlong}
+use Rattle.sockets.specs.Calm.{calm, calmSaids, Calm}
 use Rattle.sockets.proofs.Agree.{together}
 use Rattle.sockets.proofs.Alone.{same-if, stands-byte, stands-direct}
 use Rattle.sockets.proofs.Whole.{demand3}
@@ -33,8 +33,8 @@ module _ (rules : Rules) where
   abbrev finishedOf : CallsOf rules → CallsOf rules → FinishesOf rules
   finishedOf before calls = finishedBy rules (λ s. Idle) before calls
 
-  abbrev answersTo : rules .Store → CallsOf rules → CallsOf rules → AnswersOf rules
-  answersTo store before calls = answersAlong rules (λ s. Idle) store before calls
+  abbrev answersTo : rules .Held → CallsOf rules → CallsOf rules → SaidsOf rules
+  answersTo held before calls = saidsAlong rules (λ s. Idle) held before calls
 
   -- calls that bring both sockets to the same place
   abbrev Level : CallsOf rules → CallsOf rules → Type 0
@@ -76,30 +76,33 @@ module _ (rules : Rules) where
       (λ c. ap (λ (h : Happening). finishing s h ++ finishedOf after calls) (happens-level before before′ e s b)
       ∙ ap (λ (l : FinishesOf rules). finishing s (happensTo before′ s b) ++ l) (calm-finished after after′ calls (level-byte before before′ e s b)))
 
-  calm-answers : (store : rules .Store) (before before′ calls : CallsOf rules) → Level before before′
-      → calmAnswers calls (answersTo store before calls) ≡ answersTo store before′ (calm calls)
-  calm-answers store before before′ [] e = refl
-  calm-answers store before before′ (Direct x ∷ calls) e =
-      ap (λ (l : AnswersOf rules). answerOf (does rules (λ s. Idle) store before (Direct x)) ∷ l)
-      (calm-answers _ (before ++ (Direct x ∷ [])) (before′ ++ (Direct x ∷ [])) calls (level-direct before before′ e x))
-  calm-answers store before before′ (Byte s b ∷ calls) e =
+  calm-saids : (held : rules .Held) (before before′ calls : CallsOf rules) → Level before before′
+      → calmSaids calls (answersTo held before calls) ≡ answersTo held before′ (calm calls)
+  calm-saids held before before′ [] e = refl
+  calm-saids held before before′ (Direct x ∷ calls) e =
+      ap (λ (l : SaidsOf rules). saidOf (does rules (λ s. Idle) held before (Direct x)) ∷ l)
+      (calm-saids _ (before ++ (Direct x ∷ [])) (before′ ++ (Direct x ∷ [])) calls (level-direct before before′ e x))
+  calm-saids held before before′ (Byte s b ∷ calls) e =
       let after = before ++ (Byte s b ∷ []) in
       let after′ = before′ ++ (Byte s b ∷ []) in
-      let o = effect rules store s (happensTo before s b) in
-      together (λ (l : AnswersOf rules) (k : CallsOf rules). l ≡ answersTo store before′ k) (isRealTime b)
-      (calmAnswers calls (answersTo (o .store) after calls)) (answerOf o ∷ calmAnswers calls (answersTo (o .store) after calls))
+      let o = effect rules held s (happensTo before s b) in
+      together (λ (l : SaidsOf rules) (k : CallsOf rules). l ≡ answersTo held before′ k) (isRealTime b)
+      (calmSaids calls (answersTo (o .held) after calls)) (saidOf o ∷ calmSaids calls (answersTo (o .held) after calls))
       (calm calls) (Byte s b ∷ calm calls)
-      (λ c. calm-answers (o .store) after before′ calls (level-real-time before before′ e s b c)
-      ∙ ap (λ (h : Happening). answersTo (effect rules store s h .store) before′ (calm calls)) (happens-real-time before before′ e s b c))
-      (λ c. ap (λ (l : AnswersOf rules). answerOf o ∷ l) (calm-answers (o .store) after after′ calls (level-byte before before′ e s b))
-      ∙ ap (λ (h : Happening). answerOf (effect rules store s h) ∷ answersTo (effect rules store s h .store) after′ (calm calls))
+      (λ c. calm-saids (o .held) after before′ calls (level-real-time before before′ e s b c)
+      ∙ ap (λ (h : Happening). answersTo (effect rules held s h .held) before′ (calm calls)) (happens-real-time before before′ e s b c))
+      (λ c. ap (λ (l : SaidsOf rules). saidOf o ∷ l) (calm-saids (o .held) after after′ calls (level-byte before before′ e s b))
+      ∙ ap (λ (h : Happening). saidOf (effect rules held s h) ∷ answersTo (effect rules held s h .held) after′ (calm calls))
       (happens-level before before′ e s b))
 
-pub calms : (rules : Rules) (w v w′ v′ : WorldOf rules) (calls : CallsOf rules) (answers answers′ : AnswersOf rules)
-    → Calm rules w v w′ v′ calls answers answers′
-calms rules w v w′ v′ calls answers answers′ law new history new′ history′ e =
-    let d = demand3 rules w v calls answers law new history in
-    let d′ = demand3 rules w′ v′ (calm calls) answers′ law new′ history′ in
+pub calms : (rules : Rules) (w v w′ v′ : WorldOf rules) (calls : CallsOf rules) (saids saids′ : SaidsOf rules)
+    → Calm rules w v w′ v′ calls saids saids′
+calms rules w v w′ v′ calls saids saids′ law new history new′ history′ e =
+    let d = demand3 rules w v calls saids law new history in
+    let d′ = demand3 rules w′ v′ (calm calls) saids′ law new′ history′ in
     let q = calm-finished rules [] [] calls (λ s. refl) in
-    let a = calm-answers rules (w .store) [] [] calls (λ s. refl) in
-    (d .store ∙ rw (e, q) (sym (d′ .store)), rw (d .each) (a ∙ rw e (sym (d′ .each))))
+    let a = calm-saids rules (w .held) [] [] calls (λ s. refl) in
+    let same-messages = d .order ∙ q ∙ sym (d′ .order) in (
+      d .held ∙ (λ i. heldAfter rules (e i) (same-messages i)) ∙ sym (d′ .held),
+      ap (λ (l : SaidsOf rules). calmSaids calls l) (d .each) ∙ a ∙ ap (λ (held : rules .Held). saidsAlong rules (λ s. Idle) held [] (calm calls)) e ∙ sym (d′ .each),
+    )

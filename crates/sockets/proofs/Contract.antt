@@ -1,78 +1,88 @@
 -- What the promises say of a call that is not turned away.
-use Prim.Native.Nat.{ℕ, zero, suc, _<_}
-use mathlib.Core.Path.{_≡_, refl, ap, _∙_}
-use mathlib.Core.Bool.{false}
+use Prim.Native.Nat.{ℕ, _<_}
+use mathlib.Core.Path.{_≡_, refl, sym, ap, _∙_}
+use mathlib.Core.Bool.{true, false, true≢false}
+use mathlib.Core.List.{List}
 use lib.ListN.{length, take}
 use lib.Seq.{take-append-seam}
+use Rattle.ground.specs.Tests.{Test, tested, AllHold, FirstToFail, here, later}
+use Rattle.ground.specs.Calls.{left, leaves}
+use Rattle.ground.proofs.InOrder.{tested-cases}
 use Rattle.framing.specs.Bytes.{stepOf}
 use Rattle.sockets.specs.Framer.{Happening, Nothing, Cut, Finished}
 use Rattle.sockets.specs.Calls.{Socket, S0, S1}
-use Rattle.sockets.specs.Box.{Rules, OutcomeOf, LentOf, DoneOf, LentDirectOf, DoneDirectOf, Lawful, turnedAway, effect, effectDirect}
-use Rattle.sockets.specs.Promise.{happeningOf, bufferAfter, numberOf, socketOf, byteBy, byteOf, directBy, directOf, Byted, Directed}
+use Rattle.sockets.specs.Box.{Rules, OutcomeOf, LentOf, TookOf, LeftOf, took, Away, Lawful, turnedAway, effect, effectDirect}
+use Rattle.sockets.specs.Promise.{happeningOf, bufferAfter, socketNumber, socketOf, stepDoes, byteOf, directOf}
 
-pub number-socket : (s : Socket) → socketOf (numberOf s) ≡ s
+pub number-socket : (s : Socket) → socketOf (socketNumber s) ≡ s
 number-socket S0 = refl
 number-socket S1 = refl
 
--- what says the number k of its refusal, and not that it was turned away, was not
-passed : (says told : ℕ → ℕ) → ((n : ℕ) → says (suc n) ≡ told (suc n)) → (k : ℕ) → (turnedAway (told k) ≡ false → k ≡ 0)
-    → turnedAway (says k) ≡ false → k ≡ 0
-passed says told e zero named t = refl
-passed says told e (suc n) named t = named (rw (e n) at t)
+module _ (rules : Rules) where
+  -- the first test that fails has a number by which the call is turned away
+  away-first : {ts : List (Test ℕ)} {name : ℕ} → FirstToFail ts name → Away rules ts → turnedAway (rules .number (rules .plain name)) ≡ true
+  away-first (here t e) a = a .0
+  away-first (later t e f) a = away-first f (a .1)
+
+  -- of a call that is not turned away every test holds, and it does what stands behind them
+  taken : {A : Type 0} (answer : A → rules .Code) (ts : List (Test ℕ)) (failed : ℕ → A) (x : A) → ((n : ℕ) → answer (failed n) ≡ rules .plain n) → Away rules ts
+      → turnedAway (rules .number (answer (tested ts failed x))) ≡ false → AllHold ts × (tested ts failed x ≡ x)
+  taken {A} answer ts failed x says away =
+      tested-cases (λ (y : A). turnedAway (rules .number (answer y)) ≡ false → AllHold ts × (y ≡ x)) ts failed x
+      (λ all _. (all, refl))
+      (λ name f e. absurd (true≢false (sym (away-first f away) ∙ (rw (says name) at e))))
 
 module _ (rules : Rules) (law : Lawful rules) where
   -- the length that a call tells is that of its reply
-  tells : (store : rules .Store) (s : Socket) (h : Happening) → rules .Good store
-      → rules .count (effect rules store s h .code) ≡ length (effect rules store s h .reply)
-  tells store s Nothing g = law .quiet .1
-  tells store s Cut g = law .cut .1
-  tells store s (Finished m) g = law .told store s m g
+  tells : (held : rules .Held) (s : Socket) (h : Happening) → rules .Good held
+      → rules .count (effect rules held s h .answer) ≡ length (effect rules held s h .sent)
+  tells held s Nothing g = law .quiet .1
+  tells held s Cut g = law .cut .1
+  tells held s (Finished m) g = law .told held s m g
 
   -- a byte call: o is what it carries out
-  pub record Took (b : ℕ) (entry : LentOf rules) (done : DoneOf rules) (o : OutcomeOf rules) : Type 0 where
-    pub room : rules .limit < length (entry .buffer)
-    pub good : rules .Good (entry .store)
-    pub store : done .exit .store ≡ o .store
-    pub receiver : done .exit .receiver ≡ stepOf (rules .limit) (entry .receiver) b .receiver
-    pub buffer : done .exit .buffer ≡ bufferAfter (stepOf (rules .limit) (entry .receiver) b .event) (entry .buffer) b
-    pub code : done .code ≡ o .code
-    pub sent : take (rules .count (done .code)) (done .exit .reply) ≡ o .reply
+  pub record TookByte (b : ℕ) (entry : LentOf rules) (done : TookOf rules) (o : OutcomeOf rules) : Type 0 where
+    pub room : rules .limit < length (entry .receive)
+    pub good : rules .Good (entry .held)
+    pub held : done .held ≡ o .held
+    pub receiver : done .receiver ≡ stepOf (rules .limit) (entry .receiver) b .receiver
+    pub receive : done .receive ≡ bufferAfter (stepOf (rules .limit) (entry .receiver) b .event) (entry .receive) b
+    pub answer : done .answer ≡ o .answer
+    pub sent : take (rules .count (done .answer)) (done .reply) ≡ o .sent
 
-  pub took : (socket b : ℕ) (entry : LentOf rules) (done : DoneOf rules) → Byted rules socket b entry done
-      → turnedAway (rules .number (done .code)) ≡ false
-      → Took b entry done (effect rules (entry .store) (socketOf socket) (happeningOf (stepOf (rules .limit) (entry .receiver) b .event) (entry .buffer)))
-  unfolding byteOf
-  took socket b entry done c e =
-      let h = happeningOf (stepOf (rules .limit) (entry .receiver) b .event) (entry .buffer) in
-      let z = passed (λ k. rules .number (byteBy rules k socket b entry .code)) (λ k. rules .number (rules .plain k)) (λ n. refl)
-      (rules .refusal socket entry) (law .named socket entry) (rw c at e) in
-      let q : done ≡ byteBy rules 0 socket b entry = c ∙ ap (λ (k : ℕ). byteBy rules k socket b entry) z in
-      let g = law .enough socket entry z in
-      rw q
+  pub byte-took : (socket b : ℕ) (entry : LentOf rules) (done : TookOf rules) → done ≡ byteOf rules socket b entry
+      → turnedAway (rules .number (done .answer)) ≡ false
+      → TookByte b entry done (effect rules (entry .held) (socketOf socket) (happeningOf (stepOf (rules .limit) (entry .receiver) b .event) (entry .receive)))
+  unfolding byteOf stepDoes
+  byte-took socket b entry done c e =
+      let st = stepOf (rules .limit) (entry .receiver) b in
+      let t = taken rules (λ (d : TookOf rules). d .answer) (rules .tests socket entry)
+      (λ number. took (entry .receiver) (rules .plain number) (entry .held) (entry .receive) (entry .reply))
+      (stepDoes rules (socketOf socket) b entry st) (λ n. refl) (law .away socket entry) (rw c at e) in
+      let g = law .enough socket entry (t .0) in
+      rw (c ∙ t .1)
       (record {
         room = g .0;
         good = g .1;
-        store = refl;
+        held = refl;
         receiver = refl;
-        buffer = refl;
-        code = refl;
-        sent = rw (tells (entry .store) (socketOf socket) h (g .1)) (take-append-seam _ _);
+        receive = refl;
+        answer = refl;
+        sent = rw (tells (entry .held) (socketOf socket) (happeningOf (st .event) (entry .receive)) (g .1)) (take-append-seam _ _);
       })
 
   -- a direct call
-  pub record TookDirect (x : rules .Given) (entry : LentDirectOf rules) (done : DoneDirectOf rules) (o : OutcomeOf rules) : Type 0 where
-    pub good : rules .Good (entry .store)
-    pub store : done .exit .store ≡ o .store
-    pub code : done .code ≡ o .code
-    pub sent : take (rules .extent x (done .code)) (done .exit .out) ≡ o .reply
+  pub record TookDirect (x : rules .Given) (held : rules .Held) (done : LeftOf rules) (o : OutcomeOf rules) : Type 0 where
+    pub good : rules .Good held
+    pub after : done .held ≡ o .held
+    pub answer : done .answer ≡ o .answer
+    pub sent : take (rules .extent x (done .answer)) (done .reply) ≡ o .sent
 
-  pub tookDirect : (x : rules .Given) (entry : LentDirectOf rules) (done : DoneDirectOf rules)
-      → Directed rules x entry done → turnedAway (rules .number (done .code)) ≡ false
-      → TookDirect x entry done (effectDirect rules (entry .store) x)
+  pub direct-took : (x : rules .Given) (held : rules .Held) (out : List ℕ) (done : LeftOf rules) → done ≡ directOf rules x held out
+      → turnedAway (rules .number (done .answer)) ≡ false → TookDirect x held done (effectDirect rules held x)
   unfolding directOf
-  tookDirect x entry done c e =
-      let z = passed (λ k. rules .number (directBy rules k x entry .code)) (λ k. rules .number (rules .plain k)) (λ n. refl)
-      (rules .refusalDirect x entry) (law .namedDirect x entry) (rw c at e) in
-      let q : done ≡ directBy rules 0 x entry = c ∙ ap (λ (k : ℕ). directBy rules k x entry) z in
-      let g = law .enoughDirect x entry z in
-      rw q (record { good = g; store = refl; code = refl; sent = rw (law .toldDirect (entry .store) x g) (take-append-seam _ _) })
+  direct-took x held out done c e =
+      let t = taken rules (λ (l : LeftOf rules). l .answer) (rules .testsDirect x held out) (λ number. left (rules .plain number) held out)
+      (leaves (effectDirect rules held x) out) (λ n. refl) (law .awayDirect x held out) (rw c at e) in
+      let g = law .enoughDirect x held out (t .0) in
+      rw (c ∙ t .1) (record { good = g; after = refl; answer = refl; sent = rw (law .toldDirect held x g) (take-append-seam _ _) })

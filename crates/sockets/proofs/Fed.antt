@@ -10,8 +10,8 @@ use Rattle.ground.specs.Lists.{allAtMost}
 use Rattle.ground.proofs.Tests.{both}
 use Rattle.sockets.specs.Framer.{Happening, Nothing, Framer, Idle, Inside, hear, closed, hears}
 use Rattle.sockets.specs.Calls.{Socket, S0, S1, Byte, FromSocket, ifSame, stands, bytesOf, feed, finishing, finishes}
-use Rattle.sockets.specs.Box.{Rules, CallsOf, AnswersOf, Lawful, answerOf, finishedBy, taken, effect}
-use Rattle.sockets.specs.History.{WorldOf, History, answersAlong}
+use Rattle.sockets.specs.Box.{said, Rules, CallsOf, FinishesOf, SaidsOf, Lawful, saidOf, finishedBy, heldAfter, taken, effect}
+use Rattle.sockets.specs.History.{WorldOf, History, saidsAlong}
 use Rattle.sockets.specs.Demand.{Fresh}
 use Rattle.sockets.proofs.Alone.{stands-byte}
 use Rattle.sockets.proofs.Whole.{demand3}
@@ -25,7 +25,7 @@ itself : {A : Type 0} (s : Socket) (x y : A) → ifSame s s x y ≡ x
 itself S0 x y = refl
 itself S1 x y = refl
 
-module _ (rules : Rules) (start : Socket → Framer) (s : Socket) (store : rules .Store) where
+module _ (rules : Rules) (start : Socket → Framer) (s : Socket) (held : rules .Held) where
   abbrev At : CallsOf rules → Framer
   At before = stands (rules .limit) (start s) (bytesOf s before)
 
@@ -37,7 +37,7 @@ module _ (rules : Rules) (start : Socket → Framer) (s : Socket) (store : rules
   Finishes before calls bytes body =
       let f = FromSocket s (closed (rules .limit) body) in
       (finishedBy rules start before calls ≡ f ∷ [])
-      × (answersAlong rules start store before calls ≡ taken rules bytes ++ (answerOf (rules .carry store f) ∷ []))
+      × (saidsAlong rules start held before calls ≡ taken rules bytes ++ (saidOf (rules .carry held f) ∷ []))
 
   rest-fed : (before : CallsOf rules) (body rest : List ℕ) → At before ≡ Inside body → allAtMost 0x7F rest ≡ true
       → Finishes before (feed s (rest ++ (0xF7 ∷ []))) rest (body ++ rest)
@@ -45,7 +45,7 @@ module _ (rules : Rules) (start : Socket → Framer) (s : Socket) (store : rules
   rest-fed before body [] e low =
       rw (append-nil body) (
         ap (λ (at : Framer). finishing s (hears (rules .limit) at 0xF7 .what) ++ []) e,
-        ap (λ (at : Framer). answerOf (effect rules store s (hears (rules .limit) at 0xF7 .what)) ∷ []) e,
+        ap (λ (at : Framer). saidOf (effect rules held s (hears (rules .limit) at 0xF7 .what)) ∷ []) e,
       )
   rest-fed before body (b ∷ rest) e low =
       let p = both (leb b 0x7F) (allAtMost 0x7F rest) low in
@@ -54,16 +54,16 @@ module _ (rules : Rules) (start : Socket → Framer) (s : Socket) (store : rules
       let n = rw (append-assoc body (b ∷ []) rest) at next in
       let what : hears (rules .limit) (At before) b .what ≡ Nothing = rw (e, a) in (
         ap (λ (h : Happening). finishing s h ++ finishedBy rules start (before ++ (Byte s b ∷ [])) (feed s (rest ++ (0xF7 ∷ [])))) what ∙ n .0,
-        ap (λ (h : Happening). let o = effect rules store s h in answerOf o ∷ answersAlong rules start (o .store) (before ++ (Byte s b ∷ [])) (feed s (rest ++ (0xF7 ∷ [])))) what
-            ∙ ap (λ (l : AnswersOf rules). record { code = rules .plain 0; sent = [] } ∷ l) (n .1),
+        ap (λ (h : Happening). let o = effect rules held s h in saidOf o ∷ saidsAlong rules start (o .held) (before ++ (Byte s b ∷ [])) (feed s (rest ++ (0xF7 ∷ [])))) what
+            ∙ ap (λ (l : SaidsOf rules). said (rules .plain 0) [] ∷ l) (n .1),
       )
 
-module _ (rules : Rules) (w v : WorldOf rules) (s : Socket) (rest : List ℕ) (answers : AnswersOf rules) where
-  pub framed-fed : Lawful rules → Fresh rules w → allAtMost 0x7F rest ≡ true → History rules w (feed s (0xF0 ∷ (rest ++ (0xF7 ∷ [])))) v answers
-      → (let o = rules .carry (w .store) (FromSocket s (closed (rules .limit) (0xF0 ∷ rest))) in
-      (v .store ≡ o .store) × (answers ≡ taken rules (0xF0 ∷ rest) ++ (answerOf o ∷ [])))
+module _ (rules : Rules) (w v : WorldOf rules) (s : Socket) (rest : List ℕ) (saids : SaidsOf rules) where
+  pub framed-fed : Lawful rules → Fresh rules w → allAtMost 0x7F rest ≡ true → History rules w (feed s (0xF0 ∷ (rest ++ (0xF7 ∷ [])))) v saids
+      → (let o = rules .carry (w .held) (FromSocket s (closed (rules .limit) (0xF0 ∷ rest))) in
+      (v .held ≡ o .held) × (saids ≡ taken rules (0xF0 ∷ rest) ++ (saidOf o ∷ [])))
   unfolding finishes hears
   framed-fed law new low history =
-      let d = demand3 rules w v (feed s (0xF0 ∷ (rest ++ (0xF7 ∷ [])))) answers law new history in
-      let n = rest-fed rules (λ t. Idle) s (w .store) (Byte s 0xF0 ∷ []) (0xF0 ∷ []) rest (moved rules (λ t. Idle) s (w .store) [] 0xF0) low in
-      (d .store ∙ rw (n .0), d .each ∙ ap (λ (l : AnswersOf rules). record { code = rules .plain 0; sent = [] } ∷ l) (n .1))
+      let d = demand3 rules w v (feed s (0xF0 ∷ (rest ++ (0xF7 ∷ [])))) saids law new history in
+      let n = rest-fed rules (λ t. Idle) s (w .held) (Byte s 0xF0 ∷ []) (0xF0 ∷ []) rest (moved rules (λ t. Idle) s (w .held) [] 0xF0) low in
+      (d .held ∙ ap (λ (fs : FinishesOf rules). heldAfter rules (w .held) fs) (d .order ∙ n .0), d .each ∙ ap (λ (l : SaidsOf rules). said (rules .plain 0) [] ∷ l) (n .1))

@@ -1,22 +1,43 @@
 -- The premises of demand 3 can be met: with sound receivers and enough lent, any calls make a history.
 use Prim.Native.Nat.{ℕ, _≤_, _<_}
-use mathlib.Core.Path.{_≡_, refl, sym, ap}
+use mathlib.Core.Path.{_≡_, refl, sym}
 use mathlib.Core.Bool.{true, false}
 use mathlib.Core.List.{List, [], _∷_}
 use native.Mathlib.Omega.{arith}
 use lib.ListN.{length, length-set}
+use Rattle.ground.specs.Tests.{AllHold}
+use Rattle.ground.specs.Calls.{leaves}
+use Rattle.ground.proofs.InOrder.{tested-passed}
+use Rattle.framing.specs.declared.Receiver.{Receiver}
 use Rattle.framing.specs.declared.Event.{Event}
 use Rattle.framing.specs.declared.Event.the-variants as event
 use Rattle.framing.specs.Receiver.{soundOf}
 use Rattle.framing.specs.Bytes.{stepOf}
 use Rattle.framing.proofs.Keeps.{keeps-sound}
-use Rattle.sockets.specs.Framer.{Happening, Nothing, Cut, Finished}
-use Rattle.sockets.specs.Calls.{Socket, S0, S1, Byte, Direct, FromSocket, ifSame, handing}
-use Rattle.sockets.specs.Box.{Rules, LentOf, LentDirectOf, CallsOf, FinishesOf, AnswersOf, Lawful, turnedAway, storeAfter, effect}
-use Rattle.sockets.specs.Promise.{happeningOf, bufferAfter, numberOf, socketOf, byteBy, byteOf, directBy, directOf, Byted, Directed}
-use Rattle.sockets.specs.History.{WorldOf, lends, back, lendsDirect, backDirect, History, nothing, byte, direct}
-use Rattle.sockets.specs.Demand.{Sound}
-use Rattle.sockets.specs.Ready.{Ready, Roomy, AllFair}
+use Rattle.sockets.specs.Framer.{Message, Happening, Nothing, Cut, Finished}
+use Rattle.sockets.specs.Calls.{Socket, S0, S1, Call, Byte, Direct, FromSocket, ifSame, handing}
+use Rattle.sockets.specs.Box.{Rules, LentOf, lent, CallsOf, FinishesOf, SaidsOf, Lawful, turnedAway, heldAfter, effect, effectDirect}
+use Rattle.sockets.specs.Promise.{happeningOf, bufferAfter, socketNumber, socketOf, takes, stepDoes, byteOf, directOf}
+use Rattle.sockets.specs.History.{WorldOf, lends, back, backDirect, History, nothing, byte, direct}
+use Rattle.sockets.specs.Demand.{Sound, Roomy}
+
+-- When a box turns no call away. `reply` is lent to each byte call; `Fair` says which direct calls are taken, with what is lent for them.
+pub record Ready (rules : Rules) (reply : List ℕ) (Fair : rules .Given → List ℕ → Type 0) : Type 0 where
+  -- a byte call with enough lent and a sound receiver is taken
+  pub taken : (s : Socket) (held : rules .Held) (r : Receiver) (receive : List ℕ)
+      → rules .Good held → soundOf (rules .limit) r ≡ true → rules .limit < length receive
+      → AllHold (rules .tests (socketNumber s) (lent r held receive reply))
+  pub takenDirect : (x : rules .Given) (out : List ℕ) (held : rules .Held) → rules .Good held → Fair x out → AllHold (rules .testsDirect x held out)
+  -- and no number of what is taken is one of a call turned away
+  pub quiet : (turnedAway (rules .number (rules .plain 0)) ≡ false) × (turnedAway (rules .number (rules .plain 4)) ≡ false)
+  pub answered : (held : rules .Held) (s : Socket) (m : Message) → rules .Good held → turnedAway (rules .number (rules .carry held (FromSocket s m) .answer)) ≡ false
+  pub answeredDirect : (held : rules .Held) (x : rules .Given) → rules .Good held → turnedAway (rules .number (effectDirect rules held x .answer)) ≡ false
+
+-- each direct call is one that is taken, with what `outs` lends for it
+abbrev pub AllFair : {Given : Type 0} → (Given → List ℕ → Type 0) → (Given → List ℕ) → List (Call Given) → Type 0
+AllFair Fair outs [] = Unit {0}
+AllFair Fair outs (Byte s b ∷ calls) = AllFair Fair outs calls
+AllFair Fair outs (Direct x ∷ calls) = Fair x (outs x) × AllFair Fair outs calls
 
 length-after : (e : Event) (buffer : List ℕ) (b : ℕ) → length (bufferAfter e buffer b) ≡ length buffer
 length-after event.Nothing buffer b = refl
@@ -35,48 +56,40 @@ after P S1 x f p q S0 = q S0
 after P S1 x f p q S1 = p
 
 module _ (rules : Rules) (law : Lawful rules) where
-  good-after : (store : rules .Store) (fs : FinishesOf rules) → rules .Good store → rules .Good (storeAfter rules store fs)
-  good-after store [] g = g
-  good-after store (f ∷ fs) g = good-after _ fs (law .kept store f g)
+  good-after : (held : rules .Held) (fs : FinishesOf rules) → rules .Good held → rules .Good (heldAfter rules held fs)
+  good-after held [] g = g
+  good-after held (f ∷ fs) g = good-after _ fs (law .kept held f g)
 
-  good-effect : (s : Socket) (h : Happening) (store : rules .Store) → rules .Good store → rules .Good (effect rules store s h .store)
-  good-effect s Nothing store g = g
-  good-effect s Cut store g = g
-  good-effect s (Finished m) store g = law .kept store (FromSocket s m) g
-
-  met : (socket b : ℕ) (entry : LentOf rules) → rules .refusal socket entry ≡ 0 → Byted rules socket b entry (byteBy rules 0 socket b entry)
-  unfolding byteOf
-  met socket b entry z = ap (λ (k : ℕ). byteBy rules k socket b entry) (sym z)
-
-  met-direct : (x : rules .Given) (entry : LentDirectOf rules) → rules .refusalDirect x entry ≡ 0 → Directed rules x entry (directBy rules 0 x entry)
-  unfolding directOf
-  met-direct x entry z = ap (λ (k : ℕ). directBy rules k x entry) (sym z)
+  good-effect : (s : Socket) (h : Happening) (held : rules .Held) → rules .Good held → rules .Good (effect rules held s h .held)
+  good-effect s Nothing held g = g
+  good-effect s Cut held g = g
+  good-effect s (Finished m) held g = law .kept held (FromSocket s m) g
 
   module _ (reply : List ℕ) (Fair : rules .Given → List ℕ → Type 0) (ready : Ready rules reply Fair) (outs : rules .Given → List ℕ) where
-    taken-effect : (s : Socket) (h : Happening) (store : rules .Store) → rules .Good store → turnedAway (rules .number (effect rules store s h .code)) ≡ false
-    taken-effect s Nothing store good = ready .quiet .0
-    taken-effect s Cut store good = ready .quiet .1
-    taken-effect s (Finished m) store good = ready .answered store s m good
+    taken-effect : (s : Socket) (h : Happening) (held : rules .Held) → rules .Good held → turnedAway (rules .number (effect rules held s h .answer)) ≡ false
+    taken-effect s Nothing held good = ready .quiet .0
+    taken-effect s Cut held good = ready .quiet .1
+    taken-effect s (Finished m) held good = ready .answered held s m good
 
-    pub live : (w : WorldOf rules) (calls : CallsOf rules) → Sound rules w → rules .Good (w .store) → Roomy rules w → AllFair Fair outs calls
-        → (v : WorldOf rules) × (answers : AnswersOf rules) × History rules w calls v answers
+    pub live : (w : WorldOf rules) (calls : CallsOf rules) → Sound rules w → rules .Good (w .held) → Roomy rules w → AllFair Fair outs calls
+        → (v : WorldOf rules) × (saids : SaidsOf rules) × History rules w calls v saids
+    unfolding byteOf stepDoes directOf
     live w [] sound good rooms fair = (w, [], nothing)
     live w (Byte s b ∷ calls) sound good rooms fair =
         let entry = lends w s reply in
         let st = stepOf (rules .limit) (w .receiver s) b in
-        let h = happeningOf (st .event) (w .buffer s) in
+        let h = happeningOf (st .event) (w .receive s) in
         let some : 1 ≤ rules .limit = omega (arith, law .positive) in
-        let room : rules .limit < length (bufferAfter (st .event) (w .buffer s) b) = rw (length-after (st .event) (w .buffer s) b) (rooms s) in
-        let z = ready .taken s (w .store) (w .receiver s) (w .buffer s) good (sound s) (rooms s) in
-        let done = byteBy rules 0 (numberOf s) b entry in
-        let rest = live (back w s (done .exit)) calls
+        let room : rules .limit < length (bufferAfter (st .event) (w .receive s) b) = rw (length-after (st .event) (w .receive s) b) (rooms s) in
+        let all = ready .taken s (w .held) (w .receiver s) (w .receive s) good (sound s) (rooms s) in
+        let done = takes rules b entry st (effect rules (w .held) (socketOf (socketNumber s)) h) in
+        let rest = live (back w s done) calls
         (after (λ r. soundOf (rules .limit) r ≡ true) s (st .receiver) (w .receiver) (keeps-sound (rules .limit) some (w .receiver s) (sound s) b) sound)
-        (good-effect (socketOf (numberOf s)) h (w .store) good)
-        (after (λ buffer. rules .limit < length buffer) s (done .exit .buffer) (w .buffer) room rooms) fair in
-        (rest .0, _ ∷ rest .1, byte reply done (met (numberOf s) b entry z) (taken-effect (socketOf (numberOf s)) h (w .store) good) (rest .2))
+        (good-effect (socketOf (socketNumber s)) h (w .held) good)
+        (after (λ buffer. rules .limit < length buffer) s (done .receive) (w .receive) room rooms) fair in
+        (rest .0, _ ∷ rest .1, byte reply done (sym (tested-passed (rules .tests (socketNumber s) entry) _ done all)) (taken-effect (socketOf (socketNumber s)) h (w .held) good) (rest .2))
     live w (Direct x ∷ calls) sound good rooms fair =
-        let entry = lendsDirect w (outs x) in
-        let z = ready .takenDirect x (outs x) (w .store) good (fair .0) in
-        let done = directBy rules 0 x entry in
-        let rest = live (backDirect w (done .exit)) calls sound (good-after (w .store) (handing (rules .hands x)) good) rooms (fair .1) in
-        (rest .0, _ ∷ rest .1, direct (outs x) done (met-direct x entry z) (ready .answeredDirect (w .store) x good) (rest .2))
+        let all = ready .takenDirect x (outs x) (w .held) good (fair .0) in
+        let done = leaves (effectDirect rules (w .held) x) (outs x) in
+        let rest = live (backDirect w (done .held)) calls sound (good-after (w .held) (handing (rules .hands x)) good) rooms (fair .1) in
+        (rest .0, _ ∷ rest .1, direct (outs x) done (sym (tested-passed (rules .testsDirect x (w .held) (outs x)) _ done all)) (ready .answeredDirect (w .held) x good) (rest .2))

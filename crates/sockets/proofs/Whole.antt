@@ -1,19 +1,19 @@
 -- Demand 3.
 use Prim.Native.Nat.{ℕ, zero, _<_}
-use mathlib.Core.Path.{_≡_, refl, _∙_}
+use mathlib.Core.Path.{_≡_, refl, sym, ap, _∙_}
 use mathlib.Core.List.{List, [], _∷_, _++_}
 use native.Mathlib.Omega.{arith}
 use lib.ListN.{length}
-use Rattle.sockets.specs.Framer.{Framer, Idle, hears}
-use Rattle.sockets.specs.Calls.{Socket, S0, S1, Call, Byte, Direct, stands, bytesOf}
-use Rattle.sockets.specs.Box.{Rules, LentOf, LentDirectOf, CallsOf, AnswersOf, Lawful, sentOf, finishedBy}
-use Rattle.sockets.specs.Promise.{numberOf}
-use Rattle.sockets.specs.History.{WorldOf, lends, back, lendsDirect, backDirect, History, nothing, byte, direct}
-use Rattle.sockets.specs.Demand.{Independent, Fresh, Demand3, FromSound}
+use Rattle.sockets.specs.Framer.{Happening, Framer, Idle, hears}
+use Rattle.sockets.specs.Calls.{Socket, S0, S1, Call, Byte, Direct, stands, bytesOf, ofSocket, finishing, handing, finishes}
+use Rattle.sockets.specs.Box.{Rules, TookOf, CallsOf, FinishesOf, SaidsOf, Lawful, sentOf, finishedBy, heldAfter, saidsOf}
+use Rattle.sockets.specs.Promise.{socketNumber}
+use Rattle.sockets.specs.History.{WorldOf, lends, back, backDirect, History, nothing, byte, direct, finishedAlong}
+use Rattle.sockets.specs.Demand.{Independent, Fresh, Sound, Demand3, FromSound, NoEffect}
 use Rattle.sockets.proofs.Agree.{Agrees, none, same}
 use Rattle.sockets.proofs.Start.{sound-agrees}
 use Rattle.sockets.proofs.Alone.{stands-byte, stands-direct, alone}
-use Rattle.sockets.proofs.Contract.{number-socket, took, tookDirect}
+use Rattle.sockets.proofs.Contract.{number-socket, byte-took, direct-took}
 use Rattle.sockets.proofs.Carried.{Effects, joins}
 
 -- a byte call is a byte of its socket
@@ -26,66 +26,77 @@ module _ (rules : Rules) (start : Socket → Framer) where
   abbrev Agreed : WorldOf rules → CallsOf rules → CallsOf rules → Type 0
   Agreed w before calls =
       (s : Socket) → zero < length (bytesOf s calls)
-      → Agrees (rules .limit) (w .buffer s) (stands (rules .limit) (start s) (bytesOf s before)) (w .receiver s)
+      → Agrees (rules .limit) (w .receive s) (stands (rules .limit) (start s) (bytesOf s before)) (w .receiver s)
 
-  agreed-byte : (w : WorldOf rules) (s : Socket) (b : ℕ) (exit : LentOf rules) (before calls : CallsOf rules) → Agreed w before (Byte s b ∷ calls)
-      → Agrees (rules .limit) (exit .buffer) (hears (rules .limit) (stands (rules .limit) (start s) (bytesOf s before)) b .next) (exit .receiver)
-      → Agreed (back w s exit) (before ++ (Byte s b ∷ [])) calls
-  agreed-byte w S0 b exit before calls a k S0 h = rw (stands-byte (rules .limit) (start S0) S0 S0 b before) k
-  agreed-byte w S0 b exit before calls a k S1 h = rw (stands-byte (rules .limit) (start S1) S1 S0 b before) (a S1 h)
-  agreed-byte w S1 b exit before calls a k S0 h = rw (stands-byte (rules .limit) (start S0) S0 S1 b before) (a S0 h)
-  agreed-byte w S1 b exit before calls a k S1 h = rw (stands-byte (rules .limit) (start S1) S1 S1 b before) k
+  agreed-byte : (w : WorldOf rules) (s : Socket) (b : ℕ) (done : TookOf rules) (before calls : CallsOf rules) → Agreed w before (Byte s b ∷ calls)
+      → Agrees (rules .limit) (done .receive) (hears (rules .limit) (stands (rules .limit) (start s) (bytesOf s before)) b .next) (done .receiver)
+      → Agreed (back w s done) (before ++ (Byte s b ∷ [])) calls
+  agreed-byte w S0 b done before calls a k S0 h = rw (stands-byte (rules .limit) (start S0) S0 S0 b before) k
+  agreed-byte w S0 b done before calls a k S1 h = rw (stands-byte (rules .limit) (start S1) S1 S0 b before) (a S1 h)
+  agreed-byte w S1 b done before calls a k S0 h = rw (stands-byte (rules .limit) (start S0) S0 S1 b before) (a S0 h)
+  agreed-byte w S1 b done before calls a k S1 h = rw (stands-byte (rules .limit) (start S1) S1 S1 b before) k
 
-  agreed-direct : (w : WorldOf rules) (x : rules .Given) (exit : LentDirectOf rules) (before calls : CallsOf rules)
-      → Agreed w before (Direct x ∷ calls) → Agreed (backDirect w exit) (before ++ (Direct x ∷ [])) calls
-  agreed-direct w x exit before calls a s h = rw (stands-direct (rules .limit) (start s) s x before) (a s h)
+  agreed-direct : (w : WorldOf rules) (x : rules .Given) (held : rules .Held) (before calls : CallsOf rules)
+      → Agreed w before (Direct x ∷ calls) → Agreed (backDirect w held) (before ++ (Direct x ∷ [])) calls
+  agreed-direct w x held before calls a s h = rw (stands-direct (rules .limit) (start s) s x before) (a s h)
 
-  effects : Lawful rules → {w v : WorldOf rules} {calls : CallsOf rules} {answers : AnswersOf rules} (before : CallsOf rules)
-      → Agreed w before calls → History rules w calls v answers → Effects rules start (w .store) (v .store) before calls answers
-  effects law before a nothing = record { store = refl; replies = refl; each = refl }
+  -- what the calls do, and that the box's own receivers finish what their sockets' bytes finish
+  effects : Lawful rules → {w v : WorldOf rules} {calls : CallsOf rules} {saids : SaidsOf rules} (before : CallsOf rules)
+      → Agreed w before calls → (history : History rules w calls v saids)
+      → Effects rules start (w .held) (v .held) before calls saids × (finishedAlong rules history ≡ finishedBy rules start before calls)
+  unfolding finishes
+  effects law before a nothing = (record { held = refl; replies = refl; each = refl }, refl)
   effects law before a (byte {w = w} {calls = calls} {s = s} {b = b} reply done met taken rest) =
-      let t = rw (number-socket s) at (took rules law (numberOf s) b (lends w s reply) done met taken) in
-      let k = same (rules .limit) (w .buffer s) b (law .positive) (t .room) (a s (heard s b calls)) in
+      let t = rw (number-socket s) at (byte-took rules law (socketNumber s) b (lends w s reply) done met taken) in
+      let k = same (rules .limit) (w .receive s) b (law .positive) (t .room) (a s (heard s b calls)) in
       let t′ = rw (k .what) at t in
-      let g = agreed-byte w s b (done .exit) before calls a (rw (t .buffer, t .receiver) (k .kept)) in
-      joins rules start law (Byte s b) (w .store) _ _ before _ _ _ (t .good) (t′ .store) (rw (t′ .sent, t′ .code))
-      (effects law (before ++ (Byte s b ∷ [])) g rest)
+      let g = agreed-byte w s b done before calls a (rw (t .receive, t .receiver) (k .kept)) in
+      let next = effects law (before ++ (Byte s b ∷ [])) g rest in
+      (joins rules start law (Byte s b) (w .held) _ _ before _ _ _ (t .good) (t′ .held) (rw (t′ .sent, t′ .answer)) (next .0), rw (k .what, next .1))
   effects law before a (direct {w = w} {calls = calls} {x = x} out done met taken rest) =
-      let t = tookDirect rules law x (lendsDirect w out) done met taken in
-      let g = agreed-direct w x (done .exit) before calls a in
-      joins rules start law (Direct x) (w .store) _ _ before _ _ _ (t .good) (t .store) (rw (t .sent, t .code))
-      (effects law (before ++ (Direct x ∷ [])) g rest)
+      let t = direct-took rules law x (w .held) out done met taken in
+      let g = agreed-direct w x (done .held) before calls a in
+      let next = effects law (before ++ (Direct x ∷ [])) g rest in
+      (joins rules start law (Direct x) (w .held) _ _ before _ _ _ (t .good) (t .after) (rw (t .sent, t .answer)) (next .0), rw (next .1))
 
   -- from where both sockets agree with some framer
-  agreed-independent : (w v : WorldOf rules) (calls : CallsOf rules) (answers : AnswersOf rules)
-      → Lawful rules → Agreed w [] calls → History rules w calls v answers → Independent rules start (w .store) (v .store) calls answers
-  agreed-independent w v calls answers law a history =
+  agreed-independent : {w v : WorldOf rules} {calls : CallsOf rules} {saids : SaidsOf rules}
+      → Lawful rules → Agreed w [] calls → (history : History rules w calls v saids) → Independent rules start history
+  agreed-independent {w = w} {calls = calls} law a history =
       let e = effects law [] a history in
-      record { alone = λ s. alone (rules .limit) (rules .hands) start s [] calls; store = e .store; replies = e .replies; each = e .each }
+      let same-order = e .1 in
+      record {
+        alone = λ s. ap (λ (fs : FinishesOf rules). ofSocket s fs) same-order ∙ alone (rules .limit) (rules .hands) start s [] calls;
+        order = same-order;
+        held = e .0 .held ∙ ap (λ (fs : FinishesOf rules). heldAfter rules (w .held) fs) (sym same-order);
+        replies = e .0 .replies ∙ ap (λ (fs : FinishesOf rules). sentOf (rules .number) (saidsOf rules (w .held) fs)) (sym same-order);
+        each = e .0 .each;
+      }
 
 -- a socket that gets a byte has room for it
-rooms : (rules : Rules) → Lawful rules → {w v : WorldOf rules} {calls : CallsOf rules} {answers : AnswersOf rules}
-    → History rules w calls v answers → (s : Socket) → zero < length (bytesOf s calls) → rules .limit < length (w .buffer s)
+rooms : (rules : Rules) → Lawful rules → {w v : WorldOf rules} {calls : CallsOf rules} {saids : SaidsOf rules}
+    → History rules w calls v saids → (s : Socket) → zero < length (bytesOf s calls) → rules .limit < length (w .receive s)
 rooms rules law nothing s h = absurd (omega arith)
-rooms rules law (byte {w = w} {s = S0} {b = b} reply done met taken rest) S0 h = took rules law 0 b (lends w S0 reply) done met taken .room
-rooms rules law (byte {w = w} {s = S1} {b = b} reply done met taken rest) S1 h = took rules law 1 b (lends w S1 reply) done met taken .room
+rooms rules law (byte {w = w} {s = S0} {b = b} reply done met taken rest) S0 h = byte-took rules law 0 b (lends w S0 reply) done met taken .room
+rooms rules law (byte {w = w} {s = S1} {b = b} reply done met taken rest) S1 h = byte-took rules law 1 b (lends w S1 reply) done met taken .room
 rooms rules law (byte {s = S0} reply done met taken rest) S1 h = rooms rules law rest S1 h
 rooms rules law (byte {s = S1} reply done met taken rest) S0 h = rooms rules law rest S0 h
 rooms rules law (direct out done met taken rest) s h = rooms rules law rest s h
 
-module _ (rules : Rules) (w v : WorldOf rules) (calls : CallsOf rules) (answers : AnswersOf rules) where
-  pub demand3 : Demand3 rules w v calls answers
-  demand3 law new = agreed-independent rules (λ s. Idle) w v calls answers law (λ s h. rw (new s) none)
+module _ (rules : Rules) (w v : WorldOf rules) (calls : CallsOf rules) (saids : SaidsOf rules) where
+  pub demand3 : Demand3 rules w v calls saids
+  demand3 law new history = agreed-independent rules (λ s. Idle) law (λ s h. rw (new s) none) history
 
   -- the same from any sound receivers
-  pub from-sound : FromSound rules w v calls answers
+  pub from-sound : FromSound rules w v calls saids
   from-sound law sound history =
-      agreed-independent rules _ w v calls answers law
-      (λ s h. sound-agrees (rules .limit) (w .buffer s) (rooms rules law history s h) (w .receiver s) (sound s)) history
+      agreed-independent rules _ law (λ s h. sound-agrees (rules .limit) (w .receive s) (rooms rules law history s h) (w .receiver s) (sound s)) history
 
-  -- "Unfinished and cut messages have no effect": calls that finish nothing leave what is stored as it was, and send nothing
-  pub no-effect : Lawful rules → Fresh rules w → History rules w calls v answers → finishedBy rules (λ s. Idle) [] calls ≡ []
-      → (v .store ≡ w .store) × (sentOf (rules .number) answers ≡ [])
-  no-effect law new history e =
-      let d = demand3 law new history in
-      (d .store ∙ rw e, d .replies ∙ rw e)
+module _ (rules : Rules) (w v w′ v′ : WorldOf rules) (calls calls′ : CallsOf rules) (saids saids′ : SaidsOf rules) where
+  pub no-effect : NoEffect rules w v w′ v′ calls calls′ saids saids′
+  no-effect law sound sound′ e history history′ same-messages =
+      let d = from-sound rules w v calls saids law sound history in
+      let d′ = from-sound rules w′ v′ calls′ saids′ law sound′ history′ in (
+        d .held ∙ (λ i. heldAfter rules (e i) (same-messages i)) ∙ sym (d′ .held),
+        d .replies ∙ (λ i. sentOf (rules .number) (saidsOf rules (e i) (same-messages i))) ∙ sym (d′ .replies),
+      )

@@ -4,7 +4,7 @@ use mathlib.Core.Bool.{cond}
 use mathlib.Core.List.{List, [], _∷_}
 use Rattle.framing.specs.Bytes.{isRealTime}
 use Rattle.sockets.specs.Calls.{Call, Byte, Direct}
-use Rattle.sockets.specs.Box.{Answer, Rules, CallsOf, AnswersOf, Lawful}
+use Rattle.sockets.specs.Box.{Said, Rules, CallsOf, SaidsOf, Lawful}
 use Rattle.sockets.specs.History.{WorldOf, History}
 use Rattle.sockets.specs.Demand.{Fresh}
 
@@ -15,18 +15,18 @@ module _ {Given : Type 0} where
   calm (Byte s b ∷ calls) = cond (isRealTime b) (calm calls) (Byte s b ∷ calm calls)
   calm (Direct x ∷ calls) = Direct x ∷ calm calls
 
-  -- and the answers without those to them
-  abbrev pub calmAnswers : {Code : Type 0} → List (Call Given) → List (Answer Code) → List (Answer Code)
-  calmAnswers [] answers = []
-  calmAnswers (c ∷ calls) [] = []
-  calmAnswers (Byte s b ∷ calls) (a ∷ answers) = cond (isRealTime b) (calmAnswers calls answers) (a ∷ calmAnswers calls answers)
-  calmAnswers (Direct x ∷ calls) (a ∷ answers) = a ∷ calmAnswers calls answers
+  -- and what is said without what is said to them
+  abbrev pub calmSaids : {Code : Type 0} → List (Call Given) → List (Said Code) → List (Said Code)
+  calmSaids [] saids = []
+  calmSaids (c ∷ calls) [] = []
+  calmSaids (Byte s b ∷ calls) (a ∷ saids) = cond (isRealTime b) (calmSaids calls saids) (a ∷ calmSaids calls saids)
+  calmSaids (Direct x ∷ calls) (a ∷ saids) = a ∷ calmSaids calls saids
 
 -- taking all F8 to FF out of a run changes no other answer and no effect
-abbrev pub Calm : (rules : Rules) (w v w′ v′ : WorldOf rules) (calls : CallsOf rules) (answers answers′ : AnswersOf rules) → Type 0
-Calm rules w v w′ v′ calls answers answers′ =
+abbrev pub Calm : (rules : Rules) (w v w′ v′ : WorldOf rules) (calls : CallsOf rules) (saids saids′ : SaidsOf rules) → Type 0
+Calm rules w v w′ v′ calls saids saids′ =
     Lawful rules
-    → Fresh rules w → History rules w calls v answers
-    → Fresh rules w′ → History rules w′ (calm calls) v′ answers′
-    → w .store ≡ w′ .store
-    → (v .store ≡ v′ .store) × (calmAnswers calls answers ≡ answers′)
+    → Fresh rules w → History rules w calls v saids
+    → Fresh rules w′ → History rules w′ (calm calls) v′ saids′
+    → w .held ≡ w′ .held
+    → (v .held ≡ v′ .held) × (calmSaids calls saids ≡ saids′)

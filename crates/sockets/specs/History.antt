@@ -5,68 +5,70 @@ use mathlib.Core.Bool.{false}
 use mathlib.Core.List.{List, [], _∷_, _++_}
 use lib.ListN.{take}
 use Rattle.framing.specs.declared.Receiver.{Receiver}
+use Rattle.framing.specs.Bytes.{stepOf}
 use Rattle.sockets.specs.Framer.{Framer}
-use Rattle.sockets.specs.Calls.{Socket, Call, Byte, Direct, ifSame, happens}
-use Rattle.sockets.specs.Box.{Lent, LentDirect, Answer, Rules, OutcomeOf, DoneOf, DoneDirectOf, CallsOf, AnswersOf, answerOf, turnedAway, effect, effectDirect}
-use Rattle.sockets.specs.Promise.{numberOf, Byted, Directed}
+use Rattle.sockets.specs.Calls.{Socket, Call, Byte, Direct, ifSame, happens, finishing, handing}
+use Rattle.sockets.specs.Box.{Lent, lent, Took, said, Rules, OutcomeOf, TookOf, LeftOf, CallsOf, FinishesOf, SaidsOf, saidOf, turnedAway, effect, effectDirect}
+use Rattle.sockets.specs.Promise.{happeningOf, socketNumber, byteOf, directOf}
 
 -- what stands from call to call: "the box's one memory", and each socket's "own" receiver and receive buffer
-pub record World (Store : Type 0) : Type 0 where
-  pub store : Store
+pub record World (Held : Type 0) : Type 0 where
+  pub held : Held
   pub receiver : Socket → Receiver
-  pub buffer : Socket → List ℕ
+  pub receive : Socket → List ℕ
 
 abbrev pub WorldOf : Rules → Type 0
-WorldOf rules = World (rules .Store)
+WorldOf rules = World (rules .Held)
 
-module _ {Store : Type 0} where
+module _ {Held : Type 0} where
   -- "every call lends the box's one memory and its own socket's receiver and receive buffer", and some reply buffer
-  abbrev pub lends : World Store → Socket → List ℕ → Lent Store
-  lends w s reply = record { store = w .store; receiver = w .receiver s; buffer = w .buffer s; reply = reply }
+  abbrev pub lends : World Held → Socket → List ℕ → Lent Held
+  lends w s reply = lent (w .receiver s) (w .held) (w .receive s) reply
 
   -- "nobody else writes what is lent": the next call finds what this one left, and the other socket's things as they were
-  abbrev pub back : World Store → Socket → Lent Store → World Store
-  back w s exit =
+  abbrev pub back : {Code : Type 0} → World Held → Socket → Took Held Code → World Held
+  back w s done =
       record {
-        store = exit .store;
-        receiver = λ t. ifSame t s (exit .receiver) (w .receiver t);
-        buffer = λ t. ifSame t s (exit .buffer) (w .buffer t);
+        held = done .held;
+        receiver = λ t. ifSame t s (done .receiver) (w .receiver t);
+        receive = λ t. ifSame t s (done .receive) (w .receive t);
       }
 
-  abbrev pub lendsDirect : World Store → List ℕ → LentDirect Store
-  lendsDirect w out = record { store = w .store; out = out }
-
-  abbrev pub backDirect : World Store → LentDirect Store → World Store
-  backDirect w exit = record { store = exit .store; receiver = w .receiver; buffer = w .buffer }
-
--- what a call returned, and the first n bytes of the buffer lent for the reply
-abbrev pub answer : {Code : Type 0} → Code → ℕ → List ℕ → Answer Code
-answer code n out = record { code = code; sent = take n out }
+  abbrev pub backDirect : World Held → Held → World Held
+  backDirect w held = record { held = held; receiver = w .receiver; receive = w .receive }
 
 module _ (rules : Rules) where
-  -- from one world to another: each call keeps its promise, and "no call is turned away"
-  pub data History : WorldOf rules → CallsOf rules → WorldOf rules → AnswersOf rules → Type 0 where
+  -- From one world to another: each call keeps its promise, and "no call is turned away". What it says is its answer, and as many first bytes of the
+  -- buffer lent for the reply as that tells.
+  pub data History : WorldOf rules → CallsOf rules → WorldOf rules → SaidsOf rules → Type 0 where
     nothing : {w : WorldOf rules} → History w [] w []
-    byte : {w v : WorldOf rules} {calls : CallsOf rules} {answers : AnswersOf rules} {s : Socket} {b : ℕ} (reply : List ℕ)
-        (done : DoneOf rules)
-        → Byted rules (numberOf s) b (lends w s reply) done
-        → turnedAway (rules .number (done .code)) ≡ false
-        → History (back w s (done .exit)) calls v answers
-        → History w (Byte s b ∷ calls) v (answer (done .code) (rules .count (done .code)) (done .exit .reply) ∷ answers)
-    direct : {w v : WorldOf rules} {calls : CallsOf rules} {answers : AnswersOf rules} {x : rules .Given} (out : List ℕ)
-        (done : DoneDirectOf rules)
-        → Directed rules x (lendsDirect w out) done
-        → turnedAway (rules .number (done .code)) ≡ false
-        → History (backDirect w (done .exit)) calls v answers
-        → History w (Direct x ∷ calls) v (answer (done .code) (rules .extent x (done .code)) (done .exit .out) ∷ answers)
+    byte : {w v : WorldOf rules} {calls : CallsOf rules} {saids : SaidsOf rules} {s : Socket} {b : ℕ} (reply : List ℕ)
+        (done : TookOf rules)
+        → done ≡ byteOf rules (socketNumber s) b (lends w s reply)
+        → turnedAway (rules .number (done .answer)) ≡ false
+        → History (back w s done) calls v saids
+        → History w (Byte s b ∷ calls) v (said (done .answer) (take (rules .count (done .answer)) (done .reply)) ∷ saids)
+    direct : {w v : WorldOf rules} {calls : CallsOf rules} {saids : SaidsOf rules} {x : rules .Given} (out : List ℕ)
+        (done : LeftOf rules)
+        → done ≡ directOf rules x (w .held) out
+        → turnedAway (rules .number (done .answer)) ≡ false
+        → History (backDirect w (done .held)) calls v saids
+        → History w (Direct x ∷ calls) v (said (done .answer) (take (rules .extent x (done .answer)) (done .reply)) ∷ saids)
+
+  -- what the box's own receivers finish along a history, and its direct calls: the event of each step, read with the buffer that was lent
+  abbrev pub finishedAlong : {w v : WorldOf rules} {calls : CallsOf rules} {saids : SaidsOf rules} → History w calls v saids → FinishesOf rules
+  finishedAlong nothing = []
+  finishedAlong (byte {w = w} {s = s} {b = b} reply done met taken rest) =
+      finishing s (happeningOf (stepOf (rules .limit) (w .receiver s) b .event) (w .receive s)) ++ finishedAlong rest
+  finishedAlong (direct {x = x} out done met taken rest) = handing (rules .hands x) ++ finishedAlong rest
 
   -- what a call does after the calls before it: it carries out what it finishes
-  abbrev pub does : (Socket → Framer) → rules .Store → CallsOf rules → Call (rules .Given) → OutcomeOf rules
-  does start store before (Byte s b) = effect rules store s (happens (rules .limit) start before s b)
-  does start store before (Direct x) = effectDirect rules store x
+  abbrev pub does : (Socket → Framer) → rules .Held → CallsOf rules → Call (rules .Given) → OutcomeOf rules
+  does start held before (Byte s b) = effect rules held s (happens (rules .limit) start before s b)
+  does start held before (Direct x) = effectDirect rules held x
 
   -- what each of the calls then says
-  abbrev pub answersAlong : (Socket → Framer) → rules .Store → CallsOf rules → CallsOf rules → AnswersOf rules
-  answersAlong start store before [] = []
-  answersAlong start store before (c ∷ calls) =
-      answerOf (does start store before c) ∷ answersAlong start (does start store before c .store) (before ++ (c ∷ [])) calls
+  abbrev pub saidsAlong : (Socket → Framer) → rules .Held → CallsOf rules → CallsOf rules → SaidsOf rules
+  saidsAlong start held before [] = []
+  saidsAlong start held before (c ∷ calls) =
+      saidOf (does start held before c) ∷ saidsAlong start (does start held before c .held) (before ++ (c ∷ [])) calls

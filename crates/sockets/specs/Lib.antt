@@ -4,5 +4,4 @@ pub mod Box
 pub mod Promise
 pub mod History
 pub mod Demand
-pub mod Ready
 pub mod Calm

@@ -4,17 +4,18 @@ use mathlib.Core.Bool.{Bool, true, false, _&&_}
 use mathlib.Core.List.{List, [], _∷_}
 use mathlib.Core.Path.{_≡_, refl}
 use native.Mathlib.Omega.{arith}
-use lib.Dec.{eqb}
-use lib.ListN.{length}
+use lib.Dec.{eqb, leb}
+use lib.ListN.{length, getD}
 use borrow.Author.Tests.{le-leb, eq-eqb}
 use Rattle.ground.specs.Lists.{allAtMost}
 use Rattle.halves.specs.HalfBytes.{split}
 use Rattle.halves.proofs.Laws.{length-split, split-halves}
 use Rattle.sysex.specs.declared.Settings.{Settings}
 use Rattle.sysex.specs.declared.Order.the-variants.{Identify}
-use Rattle.sysex.specs.Forms.{bodyLength, isIdentity, isOurChannel}
+use Rattle.programs.specs.Held.{Target, One, Edit, All, countFor}
+use Rattle.sysex.specs.Forms.{requestBody, dumpBody, identityBody, bodyLength, isIdentity, isOurChannel}
 use Rattle.sysex.specs.Judging.{hasForm, hasProgram, furtherTests, orderOf, bodyOrder, judgeOf}
-use Rattle.sysex.specs.Formats.{Target, One, Edit, All, There, countFor, requestBody, dumpBody, identityBody, sendOrder, storeOrder}
+use Rattle.sysex.specs.Formats.{There, sendOrder, storeOrder}
 
 and-false : (a : Bool) → (a && false) ≡ false
 and-false true = refl
@@ -23,7 +24,7 @@ and-false false = refl
 -- nothing that begins F0 00 is an identity request
 no-identity : (rest : List ℕ) → isIdentity (0xF0 ∷ 0x00 ∷ rest) ≡ false
 unfolding isIdentity
-no-identity rest = and-false (eqb (suc (suc (length rest))) 5)
+no-identity rest = rw (and-false (leb (getD rest 0 0) 0x7F)) (and-false (eqb (suc (suc (length rest))) 5))
 
 module _ (size : ℕ) (settings : Settings) where
   pub request-judged : (t : Target) → There t → judgeOf size settings (requestBody t) ≡ sendOrder t
@@ -63,4 +64,4 @@ module _ (size : ℕ) (settings : Settings) where
 
   pub identity-judged : (cc : ℕ) → cc ≤ 0x7F → isOurChannel settings cc ≡ true → judgeOf size settings (identityBody cc) ≡ Identify cc
   unfolding judgeOf hasForm furtherTests bodyOrder isIdentity
-  identity-judged cc h o = rw (le-leb cc 0x7F h, o)
+  identity-judged cc h o = rw (le-leb cc 0x7F h, eq-eqb cc cc refl, o)

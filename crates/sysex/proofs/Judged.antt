@@ -6,11 +6,11 @@ use mathlib.Core.Path.{_≡_}
 use lib.Dec.{eqb, leb}
 use lib.ListN.{length, getD, drop}
 use borrow.Author.Tests.{eqb-true, leb-true}
+use Rattle.ground.specs.Tests.{AllHold}
 use Rattle.ground.proofs.Tests.{both}
 use Rattle.halves.specs.HalfBytes.{allHalves}
 use Rattle.sysex.specs.Forms.{header, begins, opcodeOf, typeOf, programOf, request, versionPlace, dataPlace, bodyLength}
 use Rattle.sysex.specs.Judging.{hasProgram, dataTests, formTests}
-use Rattle.sysex.proofs.InOrder.{AllHold}
 
 -- a body that begins with the header and passes every test
 pub record Right (size : ℕ) (body : List ℕ) : Type 0 where

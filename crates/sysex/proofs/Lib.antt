@@ -4,7 +4,6 @@ pub mod Parts
 pub mod Judged
 pub mod Accepts
 pub mod Understands
-pub mod InOrder
-pub mod Stored
+pub mod Numbered
 pub mod OneResult
 pub mod Lengths

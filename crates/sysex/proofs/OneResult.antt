@@ -1,34 +1,34 @@
 -- Each promise of this crate leaves room for one result only.
 use Prim.Native.Nat.{ℕ}
 use mathlib.Core.List.{List}
-use mathlib.Core.Path.{_≡_, ap}
-use Rattle.ground.proofs.OneResult.{one}
+use mathlib.Core.Path.{_≡_}
+use Rattle.ground.specs.Calls.{left}
+use Rattle.ground.proofs.OneResult.{one, left-one}
+use Rattle.programs.specs.Memory.{programSize}
+use Rattle.programs.specs.Held.{Held}
 use Rattle.sysex.specs.declared.Settings.{Settings}
 use Rattle.sysex.specs.declared.Order.{Order}
 use Rattle.sysex.specs.declared.Answer.{Answer}
-use Rattle.sysex.specs.Numbers.{numberOf, lengthOf, orderNumber}
+use Rattle.sysex.specs.Numbers.{refused, answerNumber, answerLength, orderNumber}
 use Rattle.sysex.specs.Judging.{judgeOf}
-use Rattle.sysex.specs.Carrying.{LeftBy, left, carryOf}
+use Rattle.sysex.specs.Carrying.{carryOf}
 
--- where all that stands at exit is one equation
-pub left-one : {Code : Type 0} {a b : Code} {m n x y : List ℕ} {l : LeftBy Code} → left a m x ≡ l → left b n y ≡ l → (a ≡ b) × (m ≡ n) × (x ≡ y)
-left-one {Code} p q =
-    let e = one p q in
-    (ap (λ (l : LeftBy Code). l .answer) e, ap (λ (l : LeftBy Code). l .memory) e, ap (λ (l : LeftBy Code). l .reply) e)
-
-pub judge-one : (settings : Settings) (body : List ℕ) (r s : Order) → r ≡ judgeOf 72 settings body → s ≡ judgeOf 72 settings body → r ≡ s
+pub judge-one : (settings : Settings) (body : List ℕ) (r s : Order) → r ≡ judgeOf programSize settings body → s ≡ judgeOf programSize settings body → r ≡ s
 judge-one settings body r s = one
 
-pub carry-out-one : (settings : Settings) (body memory reply : List ℕ) (r s : Answer) (x y v w : List ℕ)
-    → left r x v ≡ carryOf 72 settings body memory reply → left s y w ≡ carryOf 72 settings body memory reply
+pub carry-out-one : (settings : Settings) (player : ℕ) (body : List ℕ) (held : Held) (reply : List ℕ) (r s : Answer) (x y : Held) (v w : List ℕ)
+    → left r x v ≡ carryOf programSize settings player body held reply → left s y w ≡ carryOf programSize settings player body held reply
     → (r ≡ s) × (x ≡ y) × (v ≡ w)
-carry-out-one settings body memory reply r s x y v w = left-one
+carry-out-one settings player body held reply r s x y v w = left-one
 
-pub number-of-one : (answer : Answer) (r s : ℕ) → r ≡ numberOf answer → s ≡ numberOf answer → r ≡ s
-number-of-one answer r s = one
+pub refused-one : (number : ℕ) (r s : Answer) → r ≡ refused number → s ≡ refused number → r ≡ s
+refused-one number r s = one
 
-pub length-of-one : (answer : Answer) (r s : ℕ) → r ≡ lengthOf answer → s ≡ lengthOf answer → r ≡ s
-length-of-one answer r s = one
+pub answer-number-one : (answer : Answer) (r s : ℕ) → r ≡ answerNumber answer → s ≡ answerNumber answer → r ≡ s
+answer-number-one answer r s = one
+
+pub answer-length-one : (answer : Answer) (r s : ℕ) → r ≡ answerLength answer → s ≡ answerLength answer → r ≡ s
+answer-length-one answer r s = one
 
 pub order-number-one : (order : Order) (r s : ℕ) → r ≡ orderNumber order → s ≡ orderNumber order → r ≡ s
 order-number-one order r s = one

@@ -9,18 +9,21 @@ use lib.ListN.{length, getD, drop, length-drop, drop-of-length-le}
 use borrow.Author.Tests.{eqb-true, eqb-false, leb-true}
 use Rattle.ground.specs.Lists.{allAtMost}
 use Rattle.ground.proofs.Lists.{drop-one, drop-two}
+use Rattle.ground.specs.Tests.{AllHold}
 use Rattle.ground.proofs.Tests.{both, by}
+use Rattle.ground.proofs.InOrder.{tested-cases}
 use Rattle.halves.specs.HalfBytes.{split, join}
 use Rattle.halves.proofs.Laws.{length-split, length-join, join-bytes, split-halves, split-join}
 use Rattle.sysex.specs.declared.Settings.{Settings}
 use Rattle.sysex.specs.declared.Check.{Check}
 use Rattle.sysex.specs.declared.Order.{Order}
 use Rattle.sysex.specs.declared.Order.the-variants.{Identify, Refused}
-use Rattle.sysex.specs.Forms.{header, begins, opcodeOf, typeOf, programOf, request, program, edit, versionPlace, dataPlace, dataCount, bodyLength, isIdentity, isOurChannel}
+use Rattle.programs.specs.Held.{Target, One, Edit, All, countFor}
+use Rattle.sysex.specs.Forms.{header, begins, opcodeOf, typeOf, programOf, request, program, edit, versionPlace, dataPlace, dataCount, bodyLength}
+use Rattle.sysex.specs.Forms.{typeFor, ppFor, requestBody, identityBody, isIdentity, isOurChannel}
 use Rattle.sysex.specs.Judging.{hasForm, hasProgram, furtherTests, testsOf, orderOf, formOrder, bodyOrder, judgeOf}
-use Rattle.sysex.specs.Carrying.{HasData, Fits}
-use Rattle.sysex.specs.Formats.{Target, One, Edit, All, There, typeFor, ppFor, countFor, requestBody, sendOrder, storeOrder, IsDump, IsRequest, IsIdentity}
-use Rattle.sysex.proofs.InOrder.{AllHold, tested-cases}
+use Rattle.sysex.specs.Private.{HasData, Fits}
+use Rattle.sysex.specs.Formats.{There, sendOrder, storeOrder, IsDump, IsRequest, IsIdentity}
 use Rattle.sysex.proofs.Judged.{Right, right}
 
 -- a list that begins so is that beginning, and the rest
@@ -141,31 +144,12 @@ module _ (size : ℕ) (settings : Settings) (body : List ℕ) where
   identity-meant : isIdentity body ≡ true → isOurChannel settings (getD body 2 0) ≡ true → IsIdentity settings (getD body 2 0) body
   unfolding isIdentity
   identity-meant t o =
-      let fifth = eqb (getD body 4 0) 0x01 in
-      let fourth = eqb (getD body 3 0) 0x06 && fifth in
-      let third = leb (getD body 2 0) 0x7F && fourth in
-      let second = eqb (getD body 1 0) 0x7E && third in
-      let p = both (eqb (length body) 5) (eqb (getD body 0 0) 0xF0 && second) t in
-      let p₀ = both (eqb (getD body 0 0) 0xF0) second (p .1) in
-      let p₁ = both (eqb (getD body 1 0) 0x7E) third (p₀ .1) in
-      let p₂ = both (leb (getD body 2 0) 0x7F) fourth (p₁ .1) in
-      let p₃ = both (eqb (getD body 3 0) 0x06) fifth (p₂ .1) in
+      let cc = getD body 2 0 in
+      let p = both (eqb (length body) 5) (leb cc 0x7F && begins (identityBody cc) body) t in
+      let q = both (leb cc 0x7F) (begins (identityBody cc) body) (p .1) in
       let long = eqb-true (length body) 5 (p .0) in
       let nothing : drop 5 body ≡ [] = drop-of-length-le body {i = 5} (omega arith) in
-      record {
-        low = leb-true _ _ (p₂ .0);
-        ours = o;
-        form = drop-two body 0 (omega arith)
-            ∙ (rw (
-              eqb-true (getD body 0 0) 0xF0 (p₀ .0),
-              eqb-true (getD body 1 0) 0x7E (p₁ .0),
-              drop-two body 2 (omega arith),
-              eqb-true (getD body 3 0) 0x06 (p₃ .0),
-              drop-one body 4 (omega arith),
-              eqb-true (getD body 4 0) 0x01 (p₃ .1),
-              nothing,
-            ));
-      }
+      record { low = leb-true _ _ (q .0); ours = o; form = begun (identityBody cc) body (q .1) ∙ (rw nothing) }
 
   pub passed-meant : AllHold (testsOf size settings body) → Means (bodyOrder body)
   unfolding hasForm furtherTests bodyOrder

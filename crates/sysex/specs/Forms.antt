@@ -5,8 +5,9 @@ use mathlib.Core.List.{List, [], _∷_, _++_}
 use lib.Dec.{eqb, leb}
 use lib.ListN.{length, getD}
 use Rattle.halves.specs.HalfBytes.{split}
+use Rattle.programs.specs.Memory.{allSize}
+use Rattle.programs.specs.Held.{Target, One, Edit, All}
 use Rattle.sysex.specs.declared.Settings.{Settings}
-use Rattle.sysex.specs.Memory.{allSize}
 
 -- "All the rest begins F0 00 01 0C 01"
 abbrev pub header : List ℕ
@@ -71,21 +72,44 @@ wholeLength size opcode type = bodyLength size opcode type + 1
 abbrev pub longest : ℕ → ℕ
 longest size = dataPlace all + dataCount size all + 1
 
--- a dump, version 0; `pp` is the program where the type has one, and else empty
-abbrev pub dumpOf : ℕ → List ℕ → List ℕ → List ℕ
-dumpOf type pp bytes = header ++ (dump ∷ type ∷ (pp ++ (version ∷ (split bytes ++ (0xF7 ∷ [])))))
+-- the type of what is named, and "pp"
+abbrev pub typeFor : Target → ℕ
+typeFor (One p) = program
+typeFor Edit = edit
+typeFor All = all
+
+abbrev pub ppFor : Target → List ℕ
+ppFor (One p) = p ∷ []
+ppFor Edit = []
+ppFor All = []
+
+-- a request's body, and a dump's: header, opcode, type, the program where there is one; and of a dump version 0 and the halves of its bytes
+abbrev pub requestBody : Target → List ℕ
+requestBody t = header ++ (request ∷ typeFor t ∷ ppFor t)
+
+abbrev pub dumpStart : ℕ → List ℕ → List ℕ
+dumpStart type pp = header ++ (dump ∷ type ∷ (pp ++ (version ∷ [])))
+
+abbrev pub dumpBody : Target → List ℕ → List ℕ
+dumpBody t bytes = dumpStart (typeFor t) (ppFor t) ++ split bytes
 
 -- "Identity: F0 7E cc 06 01 F7, cc at most 0x7F."
+abbrev pub identityBody : ℕ → List ℕ
+identityBody cc = 0xF0 ∷ 0x7E ∷ cc ∷ 0x06 ∷ 0x01 ∷ []
+
 unfoldable pub isIdentity : List ℕ → Bool
-isIdentity body =
-    eqb (length body) 5 && (eqb (getD body 0 0) 0xF0 && (eqb (getD body 1 0) 0x7E && (leb (getD body 2 0) 0x7F && (eqb (getD body 3 0) 0x06 && eqb (getD body 4 0) 0x01))))
+isIdentity body = eqb (length body) 5 && (leb (getD body 2 0) 0x7F && begins (identityBody (getD body 2 0)) body)
 
 -- "Taken when cc is the channel, or 7F, or omni is on"
 unfoldable pub isOurChannel : Settings → ℕ → Bool
 isOurChannel settings cc = cond (eqb cc (settings .channel)) true (cond (eqb cc 0x7F) true (eqb (settings .omni) 1))
 
 -- "The reply is 17 bytes: F0 7E cc 06 02 00 01 0C 00 00 00 01, four revision bytes, F7, with cc as received."
-abbrev pub identityOf : Settings → ℕ → List ℕ
-identityOf settings cc =
+abbrev pub identityReply : Settings → ℕ → List ℕ
+identityReply settings cc =
     0xF0 ∷ 0x7E ∷ cc ∷ 0x06 ∷ 0x02 ∷ 0x00 ∷ 0x01 ∷ 0x0C ∷ 0x00 ∷ 0x00 ∷ 0x00 ∷ 0x01
     ∷ settings .revision0 ∷ settings .revision1 ∷ settings .revision2 ∷ settings .revision3 ∷ 0xF7 ∷ []
+
+-- a whole message: its body, and F7
+abbrev pub ended : List ℕ → List ℕ
+ended body = body ++ (0xF7 ∷ [])

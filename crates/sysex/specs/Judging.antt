@@ -5,27 +5,15 @@ use mathlib.Core.Bool.{Bool, true, cond, _&&_, _||_}
 use mathlib.Core.List.{List, [], _∷_}
 use lib.Dec.{eqb, leb}
 use lib.ListN.{length, getD, drop}
+use Rattle.ground.specs.Tests.{Test, test, tested}
 use Rattle.halves.specs.HalfBytes.{allHalves}
+use Rattle.programs.specs.Memory.{lastProgram}
 use Rattle.sysex.specs.declared.Settings.{Settings}
 use Rattle.sysex.specs.declared.Check.{Check}
 use Rattle.sysex.specs.declared.Check.the-variants.{Ours, OpcodeAndType, Length, Program, Version, HalfBytes, Channel}
 use Rattle.sysex.specs.declared.Order.{Order}
 use Rattle.sysex.specs.declared.Order.the-variants.{Identify, SendProgram, SendEdit, SendAll, StoreProgram, StoreEdit, StoreAll, Refused}
-use Rattle.sysex.specs.Memory.{lastProgram}
 use Rattle.sysex.specs.Forms.{header, begins, opcodeOf, typeOf, programOf, request, program, edit, version, versionPlace, dataPlace, bodyLength, wholeLength, isIdentity, isOurChannel}
-
--- a test, and its name
-pub record Test (Name : Type 0) : Type 0 where
-  pub name : Name
-  pub holds : Bool
-
-abbrev pub test : {Name : Type 0} → Name → Bool → Test Name
-test name holds = record { name = name; holds = holds }
-
--- tests in front of something: it stands where all of them hold, and else what the first that fails makes of it
-abbrev pub tested : {Name Result : Type 0} → List (Test Name) → (Name → Result) → Result → Result
-tested [] failed x = x
-tested (t ∷ ts) failed x = cond (t .holds) (tested ts failed x) (failed (t .name))
 
 -- an order, unless a check fails
 abbrev pub judgedBy : List (Test Check) → Order → Order

@@ -1,6 +1,6 @@
-pub mod Memory
 pub mod Forms
 pub mod Numbers
 pub mod Judging
 pub mod Carrying
 pub mod Formats
+pub mod Private

@@ -1,5 +1,8 @@
 -- "Numbers the box returns".
 use Prim.Native.Nat.{ℕ}
+use mathlib.Core.Logic.{_⊎_}
+use mathlib.Core.Path.{_≡_}
+use Rattle.sysex.specs.declared.Refusal.{Refusal}
 use Rattle.sysex.specs.declared.Answer.{Answer}
 use Rattle.sysex.specs.declared.Answer.the-variants.{Taken, Stored, Sent, Applied, Cut, Refused}
 use Rattle.sysex.specs.declared.Check.{Check}
@@ -7,22 +10,29 @@ use Rattle.sysex.specs.declared.Check.the-variants as check
 use Rattle.sysex.specs.declared.Order.{Order}
 use Rattle.sysex.specs.declared.Order.the-variants as order
 
-abbrev pub numberOf : Answer → ℕ
-numberOf Taken = 0
-numberOf Stored = 1
-numberOf (Sent length) = 2
-numberOf Applied = 3
-numberOf Cut = 4
-numberOf (Refused number) = number
+-- a refusal is its number: every one that the box answers is made here
+abbrev pub refusal : ℕ → Refusal
+refusal number = record { number = number }
+
+abbrev pub refused : ℕ → Answer
+refused number = Refused (refusal number)
+
+abbrev pub answerNumber : Answer → ℕ
+answerNumber Taken = 0
+answerNumber Stored = 1
+answerNumber (Sent length) = 2
+answerNumber Applied = 3
+answerNumber Cut = 4
+answerNumber (Refused r) = r .number
 
 -- "The reply length is 0 unless the number is 2."
-abbrev pub lengthOf : Answer → ℕ
-lengthOf Taken = 0
-lengthOf Stored = 0
-lengthOf (Sent length) = length
-lengthOf Applied = 0
-lengthOf Cut = 0
-lengthOf (Refused number) = 0
+abbrev pub answerLength : Answer → ℕ
+answerLength Taken = 0
+answerLength Stored = 0
+answerLength (Sent length) = length
+answerLength Applied = 0
+answerLength Cut = 0
+answerLength (Refused r) = 0
 
 -- 10 "SysEx too long", 11 "not ours", and so on: the number of a check that fails
 abbrev pub checkNumber : Check → ℕ
@@ -45,3 +55,7 @@ orderNumber (order.StoreProgram p) = 1
 orderNumber order.StoreEdit = 1
 orderNumber order.StoreAll = 1
 orderNumber (order.Refused check) = checkNumber check
+
+-- an order that is carried out: 1 "dump stored" or 2 "reply written"
+abbrev pub IsDone : Order → Type 0
+IsDone o = (orderNumber o ≡ 1) ⊎ (orderNumber o ≡ 2)

@@ -1,10 +1,11 @@
 // Replies, written from the start of the reply buffer.
 ghost use mathlib.Core.Path.{_≡_};
-ghost use mathlib.Core.List.{[], _∷_, _++_};
+ghost use mathlib.Core.List.{_++_};
 ghost use Prim.Native.Nat.{_≤_, _+_, _*_};
 ghost use lib.ListN.{length};
 ghost use Rattle.ground.specs.Lists.{written};
-ghost use Rattle.sysex.specs.Forms.{header, dumpOf, identityOf};
+ghost use Rattle.halves.specs.HalfBytes.{split};
+ghost use Rattle.sysex.specs.Forms.{dumpStart, identityReply, ended};
 use crate::Settings;
 use crate::bytes;
 use crate::judging;
@@ -12,7 +13,7 @@ use crate::judging;
 // The identity reply is 17 bytes.
 pub(crate) fn identify(cc: u8, settings: Settings, reply: &mut [u8])
     requires { ⌜ 17 ≤ length (now reply) ⌝ }
-    ensures { λ _. ⌜ now (reply .exit) ≡ written (identityOf settings cc) (now (reply .entry)) ⌝ }
+    ensures { λ _. ⌜ now (reply .exit) ≡ written (identityReply settings cc) (now (reply .entry)) ⌝ }
 {
     let identity = [
         0xF0,
@@ -37,14 +38,14 @@ pub(crate) fn identify(cc: u8, settings: Settings, reply: &mut [u8])
 }
 
 // A dump up to its data: header, opcode, type, the program where there is one, version 0. Returns the data's place.
-fn begin(kind: u8, pp: &[u8], reply: &mut [u8]) -> usize
+fn begin(typed: u8, pp: &[u8], reply: &mut [u8]) -> usize
     requires { ⌜ length (now pp) ≤ 1 ⌝ }
     requires { ⌜ 9 ≤ length (now reply) ⌝ }
     ensures { λ r. ⌜ r ≡ 8 + length (now (pp .entry)) ⌝ }
-    ensures { λ _. ⌜ now (reply .exit) ≡ written (header ++ (1 ∷ kind ∷ (now (pp .entry) ++ (0 ∷ [])))) (now (reply .entry)) ⌝ }
+    ensures { λ _. ⌜ now (reply .exit) ≡ written (dumpStart typed (now (pp .entry))) (now (reply .entry)) ⌝ }
 {
     bytes::write(&judging::HEADER, reply, 0);
-    bytes::write(&[1, kind], reply, 5);
+    bytes::write(&[judging::DUMP, typed], reply, 5);
     bytes::write(pp, reply, 7);
     let version = 7 + pp.len();
     bytes::write(&[judging::VERSION], reply, version);
@@ -52,13 +53,13 @@ fn begin(kind: u8, pp: &[u8], reply: &mut [u8]) -> usize
 }
 
 // A dump of some bytes. Returns its length.
-pub(crate) fn send(kind: u8, pp: &[u8], part: &[u8], reply: &mut [u8]) -> usize
+pub(crate) fn send(typed: u8, pp: &[u8], part: &[u8], reply: &mut [u8]) -> usize
     requires { ⌜ length (now pp) ≤ 1 ⌝ }
     requires { ⌜ 2 * length (now part) + (9 + length (now pp)) ≤ length (now reply) ⌝ }
-    ensures { λ r. ⌜ r ≡ length (dumpOf kind (now (pp .entry)) (now (part .entry))) ⌝ }
-    ensures { λ _. ⌜ now (reply .exit) ≡ written (dumpOf kind (now (pp .entry)) (now (part .entry))) (now (reply .entry)) ⌝ }
+    ensures { λ r. ⌜ r ≡ length (ended (dumpStart typed (now (pp .entry)) ++ split (now (part .entry)))) ⌝ }
+    ensures { λ _. ⌜ now (reply .exit) ≡ written (ended (dumpStart typed (now (pp .entry)) ++ split (now (part .entry)))) (now (reply .entry)) ⌝ }
 {
-    let place = begin(kind, pp, reply);
+    let place = begin(typed, pp, reply);
     let end = place + 2 * part.len();
     halves::split_into(part, &mut reply[place..end]);
     bytes::write(&[0xF7], reply, end);

@@ -3,7 +3,7 @@ ghost use mathlib.Core.Path.{_≡_};
 ghost use Prim.Native.Nat.{_≤_, _+_};
 ghost use lib.ListN.{length, getD};
 ghost use Rattle.sysex.specs.Forms.{begins};
-ghost use Rattle.sysex.specs.Memory.{putPart};
+ghost use Rattle.programs.specs.Memory.{putPart};
 
 // The byte at a place; 0 behind the end.
 pub(crate) fn byte_at(body: &[u8], place: usize) -> u8

@@ -6,14 +6,17 @@ ghost use Rattle.sysex.specs.Forms.{programOf, versionPlace, dataPlace, 
 ghost use Rattle.sysex.specs.Judging.{judgedBy, identityTests, formTests, fieldTests, dataTests, hasProgram, orderOf, formOrder, judgeOf};
 use crate::Check;
 use crate::Order;
-use crate::PROGRAMS;
 use crate::Settings;
 use crate::bytes;
+use programs::PROGRAMS;
 
 // How every message but an identity request begins, and every dump that is sent.
 pub(crate) const HEADER: [u8; 5] = *b"\xF0\x00\x01\x0C\x01";
 
+// The opcodes, and the types (`typed` in this crate: `type` is a word of the language).
 const REQUEST: u8 = 0;
+
+pub(crate) const DUMP: u8 = 1;
 
 pub(crate) const PROGRAM: u8 = 0;
 
@@ -47,19 +50,11 @@ fn is_identity(body: &[u8]) -> bool
     if body.len() != 5 {
         return false;
     }
-    if body[0] != 0xF0 {
+    let cc = body[2];
+    if 0x7F < cc {
         return false;
     }
-    if body[1] != 0x7E {
-        return false;
-    }
-    if 0x7F < body[2] {
-        return false;
-    }
-    if body[3] != 0x06 {
-        return false;
-    }
-    body[4] == 0x01
+    bytes::starts(&[0xF0, 0x7E, cc, 0x06, 0x01], body)
 }
 
 fn identified(settings: Settings, cc: u8) -> Order
@@ -92,74 +87,74 @@ fn form_judged(body: &[u8], size: usize) -> Order
         return Order::Refused(Check::OpcodeAndType);
     }
     let opcode = bytes::byte_at(body, 5);
-    if 1 < opcode {
+    if DUMP < opcode {
         return Order::Refused(Check::OpcodeAndType);
     }
-    let kind = bytes::byte_at(body, 6);
-    if 2 < kind {
+    let typed = bytes::byte_at(body, 6);
+    if ALL < typed {
         return Order::Refused(Check::OpcodeAndType);
     }
-    let length = body_length(size, opcode, kind);
+    let length = body_length(size, opcode, typed);
     if body.len() != length {
         return Order::Refused(Check::Length(length as u16 + 1));
     }
-    fields_judged(body, size, opcode, kind)
+    fields_judged(body, size, opcode, typed)
 }
 
 // The length of a body of this opcode and type.
-fn body_length(size: usize, opcode: u8, kind: u8) -> usize
+fn body_length(size: usize, opcode: u8, typed: u8) -> usize
     requires { ⌜ size ≤ 255 ⌝ }
-    ensures { λ r. ⌜ (r ≡ bodyLength size opcode kind) × (r ≤ 72 * 255 + 9) ⌝ }
+    ensures { λ r. ⌜ (r ≡ bodyLength size opcode typed) × (r ≤ 72 * 255 + 9) ⌝ }
 {
-    let version = version_place(kind);
+    let version = version_place(typed);
     if opcode == REQUEST {
         return version;
     }
-    version + 1 + data_count(size, kind)
+    version + 1 + data_count(size, typed)
 }
 
 // How many half bytes a dump has.
-fn data_count(size: usize, kind: u8) -> usize
+fn data_count(size: usize, typed: u8) -> usize
     requires { ⌜ size ≤ 255 ⌝ }
-    ensures { λ r. ⌜ (r ≡ dataCount size kind) × (r ≤ 72 * 255) ⌝ }
+    ensures { λ r. ⌜ (r ≡ dataCount size typed) × (r ≤ 72 * 255) ⌝ }
 {
-    if kind == ALL {
+    if typed == ALL {
         2 * (PROGRAMS * size)
     } else {
         2 * size
     }
 }
 
-fn fields_judged(body: &[u8], size: usize, opcode: u8, kind: u8) -> Order
-    requires { ⌜ length (now body) ≡ bodyLength size opcode kind ⌝ }
-    ensures { λ r. ⌜ r ≡ judgedBy (fieldTests opcode kind (now (body .entry))) (orderOf opcode kind (programOf (now (body .entry)))) ⌝ }
+fn fields_judged(body: &[u8], size: usize, opcode: u8, typed: u8) -> Order
+    requires { ⌜ length (now body) ≡ bodyLength size opcode typed ⌝ }
+    ensures { λ r. ⌜ r ≡ judgedBy (fieldTests opcode typed (now (body .entry))) (orderOf opcode typed (programOf (now (body .entry)))) ⌝ }
 {
     let number = bytes::byte_at(body, 7);
-    if has_program(kind, number) {
-        let asked = order(opcode, kind, number);
+    if has_program(typed, number) {
+        let asked = order(opcode, typed, number);
         if opcode == REQUEST {
             return asked;
         }
-        return data_judged(body, kind, asked);
+        return data_judged(body, typed, asked);
     }
     Order::Refused(Check::Program(LAST))
 }
 
-fn has_program(kind: u8, number: u8) -> bool
-    ensures { λ r. ⌜ r ≡ hasProgram kind number ⌝ }
+fn has_program(typed: u8, number: u8) -> bool
+    ensures { λ r. ⌜ r ≡ hasProgram typed number ⌝ }
 {
-    if kind == PROGRAM {
+    if typed == PROGRAM {
         return number <= LAST;
     }
     true
 }
 
 // A dump's version and data, in front of what it asks for.
-fn data_judged(body: &[u8], kind: u8, asked: Order) -> Order
-    requires { ⌜ dataPlace kind ≤ length (now body) ⌝ }
-    ensures { λ r. ⌜ r ≡ judgedBy (dataTests kind (now (body .entry))) asked ⌝ }
+fn data_judged(body: &[u8], typed: u8, asked: Order) -> Order
+    requires { ⌜ dataPlace typed ≤ length (now body) ⌝ }
+    ensures { λ r. ⌜ r ≡ judgedBy (dataTests typed (now (body .entry))) asked ⌝ }
 {
-    let version = version_place(kind);
+    let version = version_place(typed);
     if bytes::byte_at(body, version) != VERSION {
         return Order::Refused(Check::Version(VERSION));
     }
@@ -171,28 +166,28 @@ fn data_judged(body: &[u8], kind: u8, asked: Order) -> Order
 }
 
 // Where the version of a dump stands, one place before its data.
-pub(crate) fn version_place(kind: u8) -> usize
-    ensures { λ r. ⌜ (r ≡ versionPlace kind) × (r ≤ 8) ⌝ }
+pub(crate) fn version_place(typed: u8) -> usize
+    ensures { λ r. ⌜ (r ≡ versionPlace typed) × (r ≤ 8) ⌝ }
 {
-    if kind == PROGRAM { 8 } else { 7 }
+    if typed == PROGRAM { 8 } else { 7 }
 }
 
-fn order(opcode: u8, kind: u8, number: u8) -> Order
-    ensures { λ r. ⌜ r ≡ orderOf opcode kind number ⌝ }
+fn order(opcode: u8, typed: u8, number: u8) -> Order
+    ensures { λ r. ⌜ r ≡ orderOf opcode typed number ⌝ }
 {
     if opcode == REQUEST {
-        if kind == PROGRAM {
+        if typed == PROGRAM {
             return Order::SendProgram(number);
         }
-        if kind == EDIT {
+        if typed == EDIT {
             return Order::SendEdit;
         }
         return Order::SendAll;
     }
-    if kind == PROGRAM {
+    if typed == PROGRAM {
         return Order::StoreProgram(number);
     }
-    if kind == EDIT {
+    if typed == EDIT {
         return Order::StoreEdit;
     }
     Order::StoreAll

@@ -7,16 +7,16 @@ mod judging;
 mod numbers;
 
 ghost use mathlib.Core.Path.{_≡_};
+ghost use Rattle.ground.specs.Calls.{left};
+ghost use Rattle.programs.specs.Memory.{programSize};
+ghost use Rattle.programs.specs.Held.{holds};
 ghost use Rattle.sysex.specs.Judging.{judgeOf};
-ghost use Rattle.sysex.specs.Carrying.{left, carryOf};
-pub use numbers::length_of;
-pub use numbers::number_of;
+ghost use Rattle.sysex.specs.Carrying.{carryOf};
+pub use numbers::answer_length;
+pub use numbers::answer_number;
 pub use numbers::order_number;
-
-// The bytes of a program, and how many programs there are. All other lengths derive from these.
-pub const PROGRAM: usize = 72;
-
-pub const PROGRAMS: usize = 36;
+pub use numbers::refused;
+use programs::PROGRAM;
 
 pub struct Settings {
     pub channel: u8,
@@ -57,6 +57,11 @@ pub enum Order {
     Refused(Check),
 }
 
+// Why a message or a call is refused: document 01's number.
+pub struct Refusal {
+    pub number: u8,
+}
+
 // What the box answers, by document 01's numbers. A SysEx is stored, answered with so many bytes, or refused.
 pub enum Answer {
     Taken,
@@ -64,19 +69,25 @@ pub enum Answer {
     Sent(u16),
     Applied,
     Cut,
-    Refused(u8),
+    Refused(Refusal),
 }
 
 // What a body asks for.
 pub fn judge(body: &[u8], settings: Settings) -> Order
-    ensures { λ r. ⌜ r ≡ judgeOf 72 settings (now (body .entry)) ⌝ }
+    ensures { λ r. ⌜ r ≡ judgeOf programSize settings (now (body .entry)) ⌝ }
 {
     judging::judged(body, settings, PROGRAM)
 }
 
-// Does what a body asks for.
-pub fn carry_out(body: &[u8], settings: Settings, memory: &mut [u8], reply: &mut [u8]) -> Answer
-    ensures { λ r. ⌜ left r (now (memory .exit)) (now (reply .exit)) ≡ carryOf 72 settings (now (body .entry)) (now (memory .entry)) (now (reply .entry)) ⌝ }
+// Does what a player's body asks for.
+pub fn carry_out(
+    body: &[u8],
+    settings: Settings,
+    player: u32,
+    memory: &mut [u8],
+    reply: &mut [u8],
+) -> Answer
+    ensures { λ r. ⌜ left r (holds (now (memory .exit))) (now (reply .exit)) ≡ carryOf programSize settings player (now (body .entry)) (holds (now (memory .entry))) (now (reply .entry)) ⌝ }
 {
-    carrying::carried(body, settings, PROGRAM, memory, reply)
+    carrying::carried(body, settings, player, PROGRAM, memory, reply)
 }

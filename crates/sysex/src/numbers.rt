@@ -1,12 +1,20 @@
 // Answers, orders and checks as document 01's numbers.
 ghost use mathlib.Core.Path.{_≡_};
-ghost use Rattle.sysex.specs.Numbers.{numberOf, lengthOf, checkNumber, orderNumber};
+ghost use Rattle.sysex.specs.Numbers.{refused, answerNumber, answerLength, checkNumber, orderNumber};
 use crate::Answer;
 use crate::Check;
 use crate::Order;
+use crate::Refusal;
 
-pub fn number_of(answer: Answer) -> u8
-    ensures { λ r. ⌜ r ≡ numberOf answer ⌝ }
+// The refusal of this number: every one that the box answers is made here.
+pub fn refused(number: u8) -> Answer
+    ensures { λ r. ⌜ r ≡ refused number ⌝ }
+{
+    Answer::Refused(Refusal { number })
+}
+
+pub fn answer_number(answer: Answer) -> u8
+    ensures { λ r. ⌜ r ≡ answerNumber answer ⌝ }
 {
     match answer {
         Answer::Taken => 0,
@@ -14,13 +22,13 @@ pub fn number_of(answer: Answer) -> u8
         Answer::Sent(_) => 2,
         Answer::Applied => 3,
         Answer::Cut => 4,
-        Answer::Refused(number) => number,
+        Answer::Refused(refusal) => refusal.number,
     }
 }
 
 // The reply's length.
-pub fn length_of(answer: Answer) -> u16
-    ensures { λ r. ⌜ r ≡ lengthOf answer ⌝ }
+pub fn answer_length(answer: Answer) -> u16
+    ensures { λ r. ⌜ r ≡ answerLength answer ⌝ }
 {
     match answer {
         Answer::Taken => 0,

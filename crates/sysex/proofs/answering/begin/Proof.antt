@@ -7,7 +7,7 @@ use Rattle.sysex.proofs.answering.begin.Statement.{statement}
 use Rattle.sysex.proofs.answering.begin.Tie as tie
 
 returns : tie.Need-returns
-returns c = let a = c .before .before .before .before .before .before .before .before .before .before .before .before .before .before .before .before .before .before .before .before .before .args in (omega arith, begun (a .kind) (now (a .pp)) (now (a .reply)) _ _ _ _ (c .before .before .before .before .before .before .before .before .before .before .before .before .before .before .before .before .write .ensures) (c .before .before .before .before .before .before .before .before .before .before .before .write2 .ensures) (c .before .before .before .before .before .before .before .write3 .ensures) (c .before .before .write4 .ensures))
+returns c = let a = c .before .before .before .before .before .before .before .before .before .before .before .before .before .before .before .before .before .before .before .before .before .args in (omega arith, begun (a .typed) (now (a .pp)) (now (a .reply)) _ _ _ _ (c .before .before .before .before .before .before .before .before .before .before .before .before .before .before .before .before .write .ensures) (c .before .before .before .before .before .before .before .before .before .before .before .write2 .ensures) (c .before .before .before .before .before .before .before .write3 .ensures) (c .before .before .write4 .ensures))
 
 pub begin-spec : {M : Type 1} → statement M
 begin-spec =

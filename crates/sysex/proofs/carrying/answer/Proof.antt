@@ -15,13 +15,13 @@ cast-t15 : tie.Need-cast-t15
 cast-t15 c =
     let a = c .before .before .before .before .before .before .before .before .args in
     let part = take (a .place + a .count - a .place) (drop (a .place) (now (a .memory))) in
-    omega (arith, dump-length (a .kind) (now (a .pp)) part, length-take (a .place + a .count - a .place) (drop (a .place) (now (a .memory))))
+    omega (arith, dump-length (a .typed) (now (a .pp)) part, length-take (a .place + a .count - a .place) (drop (a .place) (now (a .memory))))
 
 returns : tie.Need-returns
 returns c =
     let a = c .before .before .before .before .before .before .before .before .args in
     let s = c .before .before .send in
-    answered-by (a .kind) (a .place) (a .count) _ (now (a .pp)) (now (a .memory)) (now (a .reply)) _ _ (s .ensures .0) (s .ensures .1)
+    answered-by (a .typed) (a .place) (a .count) _ (now (a .pp)) (now (a .memory)) (now (a .reply)) _ _ (s .ensures .0) (s .ensures .1)
     (ap (λ (k : ℕ). take k (drop (a .place) (now (a .memory)))) (add-sub-cancel-left (a .place) (a .count)))
 
 pub answer-spec : {M : Type 1} → statement M

@@ -17,7 +17,7 @@ returns c =
     let a = s .args in
     let v = c .before .before .before .before .before .version-place in
     let from = v .result + 1 in
-    let joined = join-leaves _ _ _ _ (c .before .before .join-into .ensures) (simp (length-take, length-drop) (omega arith)) (rw (to-end from (now (a .body)), v .ensures .0) (s .pre .1 .0)) in
+    let joined = join-leaves _ _ _ _ (c .before .before .join-into .ensures) (simp (length-take, length-drop) (omega arith)) (rw (to-end from (now (a .body)), v .ensures .0) (s .pre .0 .1)) in
     (refl, stored-by (a .place) (a .count) from _ (now (a .body)) (now (a .memory)) _ joined (ap (λ (n : ℕ). n + 1) (v .ensures .0)))
 
 pub store-spec : {M : Type 1} → statement M

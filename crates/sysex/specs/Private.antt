@@ -1,0 +1,34 @@
+-- What private functions ask of a body before they act on its order, and the judge gives; and what one of them leaves. No promise and no theorem
+-- of the box rests on it.
+use Prim.Native.Nat.{ℕ, _+_, _*_, _≤_}
+use mathlib.Core.Bool.{true}
+use mathlib.Core.List.{List, _++_}
+use mathlib.Core.Path.{_≡_}
+use lib.ListN.{length, drop}
+use Rattle.ground.specs.Calls.{leaves}
+use Rattle.halves.specs.HalfBytes.{split, allHalves}
+use Rattle.programs.specs.Memory.{lastProgram, allSize, partOf}
+use Rattle.programs.specs.Held.{holds}
+use Rattle.sysex.specs.declared.Order.{Order}
+use Rattle.sysex.specs.declared.Order.the-variants as order
+use Rattle.sysex.specs.Forms.{program, edit, all, dataPlace, dumpStart, ended}
+use Rattle.sysex.specs.Carrying.{Left, sending}
+
+-- a dump's data are half bytes, as many as it takes
+abbrev pub HasData : ℕ → ℕ → List ℕ → Type 0
+HasData type count body = (length body ≡ dataPlace type + 2 * count) × (allHalves (drop (dataPlace type) body) ≡ true)
+
+-- the program is one of the 36, and a dump has its data
+abbrev pub Fits : ℕ → Order → List ℕ → Type 0
+Fits size (order.Identify cc) body = Unit {0}
+Fits size (order.SendProgram p) body = p ≤ lastProgram
+Fits size order.SendEdit body = Unit {0}
+Fits size order.SendAll body = Unit {0}
+Fits size (order.StoreProgram p) body = (p ≤ lastProgram) × HasData program size body
+Fits size order.StoreEdit body = HasData edit size body
+Fits size order.StoreAll body = HasData all (allSize size) body
+Fits size (order.Refused check) body = Unit {0}
+
+-- the dump of a part of memory, sent
+abbrev pub partSent : ℕ → List ℕ → ℕ → ℕ → List ℕ → List ℕ → Left
+partSent type pp place count memory reply = leaves (sending (ended (dumpStart type pp ++ split (partOf place count memory))) (holds memory)) reply
