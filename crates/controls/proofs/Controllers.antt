@@ -9,10 +9,11 @@ use lib.Dec.{eqb, ltb}
 use lib.ListN.{length, getD}
 use borrow.Author.Tests.{le-ltb, ne-eqb, ltb-true, ltb-false, eqb-false}
 use Rattle.ground.proofs.Tests.{by}
+use Rattle.programs.specs.Memory.{programSize}
 use Rattle.controls.specs.declared.Row.{Row}
 use Rattle.controls.specs.declared.Change.the-variants as change
 use Rattle.controls.specs.Answers.{numberOf}
-use Rattle.controls.specs.Table.{programSize, chorus, rotary, rows, rowOf, selections, effectOf, selected}
+use Rattle.controls.specs.Table.{chorus, rotary, rows, rowOf, selections, effectOf, selected}
 use Rattle.controls.specs.Applying.{Left, left, store, applyOf}
 use Rattle.controls.proofs.Bytes.{Outside, length-put, put-outside}
 use Rattle.controls.proofs.Rows.{beside-46}

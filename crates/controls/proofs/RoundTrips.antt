@@ -10,11 +10,12 @@ use lib.ListN.{length, getD}
 use borrow.Author.Tests.{le-ltb, ne-eqb, ltb-false, eqb-false}
 use Rattle.ground.specs.Lists.{allAtMost}
 use Rattle.ground.proofs.Tests.{by}
+use Rattle.programs.specs.Memory.{programSize}
 use Rattle.controls.specs.declared.Reading.{Reading}
 use Rattle.controls.specs.declared.Reading.the-variants.{Value, Refused}
 use Rattle.controls.specs.declared.Change.the-variants as change
 use Rattle.controls.specs.Formulas.{numberFor, mOf, nextFor}
-use Rattle.controls.specs.Table.{programSize, none, rowOf, effectOf, selected}
+use Rattle.controls.specs.Table.{none, rowOf, effectOf, selected}
 use Rattle.controls.specs.Fields.{readAt}
 use Rattle.controls.specs.Applying.{left, store, applyOf}
 use Rattle.controls.specs.Showing.{shownOf, backOf}

@@ -9,9 +9,10 @@ use lib.Dec.{eqb, leb, ltb}
 use borrow.Author.Tests.{eqb-true, leb-true, ltb-true, ne-eqb}
 use Rattle.ground.proofs.Tests.{both, either, by}
 use Rattle.ground.proofs.Computed.{every, every-at}
+use Rattle.programs.specs.Memory.{programSize}
 use Rattle.controls.specs.declared.Row.{Row}
 use Rattle.controls.specs.Formulas.{m-upper, m-lower, numberBy, numberFor}
-use Rattle.controls.specs.Table.{Entry, programSize, Sane, find, none, rowAs, rows, rowOf}
+use Rattle.controls.specs.Table.{Entry, Sane, find, none, rowAs, rows, rowOf}
 use Rattle.controls.proofs.Bytes.{Outside, above}
 
 module _ {A : Type 0} (other : A) where

@@ -4,11 +4,12 @@ use mathlib.Core.Bool.{cond}
 use mathlib.Core.List.{List}
 use lib.Dec.{eqb, ltb}
 use lib.ListN.{length, getD}
+use Rattle.programs.specs.Memory.{programSize}
 use Rattle.controls.specs.declared.Row.{Row}
 use Rattle.controls.specs.declared.Change.{Change}
 use Rattle.controls.specs.declared.Change.the-variants.{Applied, Refused}
 use Rattle.controls.specs.Formulas.{nextFor}
-use Rattle.controls.specs.Table.{programSize, rowOf, selected}
+use Rattle.controls.specs.Table.{rowOf, selected}
 use Rattle.controls.specs.Fields.{readAt, putAt}
 
 -- what a call leaves: its answer, and the edit buffer

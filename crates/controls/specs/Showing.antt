@@ -4,11 +4,12 @@ use mathlib.Core.Bool.{cond}
 use mathlib.Core.List.{List}
 use lib.Dec.{eqb, ltb}
 use lib.ListN.{length, getD}
+use Rattle.programs.specs.Memory.{programSize}
 use Rattle.controls.specs.declared.Row.{Row}
 use Rattle.controls.specs.declared.Reading.{Reading}
 use Rattle.controls.specs.declared.Reading.the-variants.{Value, Refused}
 use Rattle.controls.specs.Formulas.{m-upper, m-lower, numberFor, mOf}
-use Rattle.controls.specs.Table.{programSize, rowOf, selected}
+use Rattle.controls.specs.Table.{rowOf, selected}
 use Rattle.controls.specs.Fields.{readAt}
 
 -- "the smallest value within the controller's range whose formula gives the stored number"; Req 01: "Showing a value back still takes the smallest". The first of `count` values from v on

@@ -4,6 +4,7 @@ use mathlib.Core.Bool.{Bool, true, cond}
 use mathlib.Core.List.{List, [], _∷_}
 use mathlib.Core.Path.{_≡_}
 use lib.Dec.{eqb}
+use Rattle.programs.specs.Memory.{programSize}
 use Rattle.controls.specs.declared.Row.{Row}
 use Rattle.controls.specs.Formulas.{v/64, v/2, as-received, threshold, m-upper, m-lower, v/22, v×50, v×256/104, v×256/42, v×22+100, v×25}
 
@@ -43,10 +44,6 @@ rowAs place width formula least highest effect =
 
 abbrev pub row : ℕ → ℕ → ℕ → ℕ → ℕ → ℕ → ℕ → Entry Row
 row controller place width formula least highest effect = record { key = controller; value = rowAs place width formula least highest effect }
-
--- "72 bytes each": a program, and the edit buffer
-abbrev pub programSize : ℕ
-programSize = 72
 
 -- "a pair c>b is controller and byte"; Req 01: "51 is raised to at least 200, 58 to at least 150 and 54 to at least 1", and 0 raises nothing
 unfoldable pub rows : List (Entry Row)

@@ -4,15 +4,13 @@ mod formulas;
 mod sheet;
 mod table;
 
+use programs::PROGRAM;
 pub use table::row_of;
 ghost use mathlib.Core.Path.{_≡_};
 ghost use Rattle.controls.specs.Table.{Sane};
 ghost use Rattle.controls.specs.Scaling.{scaleRow, scaleOf};
 ghost use Rattle.controls.specs.Applying.{left, applyRow, applyOf};
 ghost use Rattle.controls.specs.Showing.{backRow, backOf};
-
-// The bytes of a program, and of the edit buffer.
-pub const PROGRAM: usize = 72;
 
 // A row of the table. A row of no bytes stands for a controller that is not in it.
 pub struct Row {
