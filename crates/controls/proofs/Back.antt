@@ -1,5 +1,5 @@
 -- How a row's number comes about, and what follows: the smallest value that gives it is shown, and a value gives the number that it stored.
-use Prim.Native.Nat.{ℕ, _+_, _*_, _/_, _%_, _≤_, _<_}
+use Prim.Native.Nat.{ℕ, _+_, _*_, _/_, _%_, _≤_}
 use mathlib.Core.Bool.{Bool, true, false}
 use mathlib.Core.Logic.{inl, inr}
 use mathlib.Core.Path.{_≡_, refl, sym, _∙_}
@@ -11,12 +11,12 @@ use Rattle.controls.specs.declared.Row.{Row}
 use Rattle.controls.specs.Formulas.{m-upper, m-lower, numberFor, mOf, nextFor}
 use Rattle.controls.specs.Table.{rowOf}
 use Rattle.controls.specs.Showing.{smallest, sevenBits, shownOf}
-use Rattle.controls.specs.Meaning.{Gives, Smallest}
+use Rattle.controls.specs.Meaning.{Gives}
 use Rattle.controls.proofs.Bytes.{above}
 use Rattle.controls.proofs.Rows.{Whole, whole-upper, whole-lower, row-sane, number-room}
 use Rattle.controls.proofs.Smallest.{Shown, searched}
 
--- seven bits of m: `new v m` is m with v in their place
+-- seven bits of m, `bits m`: `new v m` is m with v in their place
 pub record SevenBits (bits : ℕ → ℕ) (new : ℕ → ℕ → ℕ) : Type 0 where
   pub within : (m : ℕ) → m ≤ 16383 → bits m ≤ 127
   pub small : (v m : ℕ) → v ≤ 127 → m ≤ 16383 → new v m ≤ 16383
@@ -31,18 +31,18 @@ lower : SevenBits (λ m. m % 128) (λ v m. m / 128 * 128 + v)
 lower = record { within = λ m h. omega arith; small = λ v m h k. omega arith; same = λ m. omega arith; other = λ v m e. omega arith; again = λ v m h. omega arith }
 
 -- a row's number has v in seven bits of m, or goes by v alone
-pub data Kind (r : Row) : Type 0 where
+pub data Formed (r : Row) : Type 0 where
   of-m : {bits : ℕ → ℕ} {new : ℕ → ℕ → ℕ} → SevenBits bits new → ((v stored : ℕ) → nextFor r v stored ≡ 6 * new v (mOf stored))
-      → ((stored : ℕ) → shownOf r stored ≡ sevenBits stored (bits (mOf stored))) → Whole r → Kind r
-  of-v : ((v stored : ℕ) → nextFor r v stored ≡ numberFor r v) → ((stored : ℕ) → shownOf r stored ≡ smallest r stored (r .highest + 1) 0) → Kind r
+      → ((stored : ℕ) → shownOf r stored ≡ sevenBits stored (bits (mOf stored))) → Whole r → Formed r
+  of-v : ((v stored : ℕ) → nextFor r v stored ≡ numberFor r v) → ((stored : ℕ) → shownOf r stored ≡ smallest r stored (r .highest + 1) 0) → Formed r
 
-pub kind : (controller : ℕ) → Kind (rowOf controller)
+pub formed : (controller : ℕ) → Formed (rowOf controller)
 unfolding nextFor shownOf
-kind controller =
+formed controller =
     let r = rowOf controller in
-    by (λ (_ : Bool). Kind r) (eqb (r .formula) m-upper) true false
+    by (λ (_ : Bool). Formed r) (eqb (r .formula) m-upper) true false
     (λ t. of-m upper (λ v stored. rw t) (λ stored. rw t) (whole-upper controller t))
-    (λ t. by (λ (_ : Bool). Kind r) (eqb (r .formula) m-lower) true false
+    (λ t. by (λ (_ : Bool). Formed r) (eqb (r .formula) m-lower) true false
     (λ u. of-m lower (λ v stored. rw (t, u)) (λ stored. rw (t, u)) (whole-lower controller u))
     (λ u. of-v (λ v stored. rw (t, u)) (λ stored. rw (t, u))))
 
@@ -56,7 +56,7 @@ unfolding mOf
 m-of-six stored m h e = omega arith
 
 module _ (controller : ℕ) where
-  pub row-shown : Kind (rowOf controller) → (stored : ℕ) → Shown (rowOf controller) stored (shownOf (rowOf controller) stored)
+  pub row-shown : Formed (rowOf controller) → (stored : ℕ) → Shown (rowOf controller) stored (shownOf (rowOf controller) stored)
   row-shown (of-m {bits} {new} law next shows whole) stored =
       let r = rowOf controller in
       let m = mOf stored in
@@ -79,14 +79,14 @@ module _ (controller : ℕ) where
       rw (shows stored) (searched r stored (λ v. next v stored) (r .highest + 1) 0 (omega arith) (λ u l. absurd (omega arith)))
 
   -- a value gives the number that it stored
-  pub gives-again : Kind (rowOf controller) → (v stored : ℕ) → v ≤ 127 → Gives (rowOf controller) (nextFor (rowOf controller) v stored) v
+  pub gives-again : Formed (rowOf controller) → (v stored : ℕ) → v ≤ 127 → Gives (rowOf controller) (nextFor (rowOf controller) v stored) v
   gives-again (of-m law next shows whole) v stored h =
       let is-m = m-of-six _ _ (law .small v (mOf stored) h (m-small stored)) (sym (next v stored)) in
       next v _ ∙ (rw (is-m, law .again v (mOf stored) h) (sym (next v stored)))
   gives-again (of-v next shows) v stored h = next v _ ∙ sym (next v stored)
 
   -- a stored number has room in its row's bytes
-  pub next-room : Kind (rowOf controller) → (v stored : ℕ) → v ≤ rowOf controller .highest → above (rowOf controller .width) (nextFor (rowOf controller) v stored) ≡ 0
+  pub next-room : Formed (rowOf controller) → (v stored : ℕ) → v ≤ rowOf controller .highest → above (rowOf controller .width) (nextFor (rowOf controller) v stored) ≡ 0
   next-room (of-m law next shows whole) v stored h =
       let low = row-sane controller .low in
       let small = law .small v (mOf stored) (omega arith) (m-small stored) in
@@ -94,7 +94,7 @@ module _ (controller : ℕ) where
   next-room (of-v next shows) v stored h = rw (next v stored) (number-room controller v h)
 
   -- what a value gives is at least the row's least number
-  pub least-given : Kind (rowOf controller) → (v stored : ℕ) → Gives (rowOf controller) stored v → rowOf controller .least ≤ stored
+  pub least-given : Formed (rowOf controller) → (v stored : ℕ) → Gives (rowOf controller) stored v → rowOf controller .least ≤ stored
   unfolding numberFor
   least-given (of-m law next shows whole) v stored g = omega (arith, whole .2)
   least-given (of-v next shows) v stored g = let raised = sym (next v stored) ∙ g in omega arith

@@ -1,6 +1,5 @@
 -- The theorems of applying, for every controller, value and edit buffer.
 use Prim.Native.Nat.{ℕ, _≤_, _<_}
-use mathlib.Core.Bool.{true, false}
 use mathlib.Core.List.{List}
 use mathlib.Core.Logic.{⊎-elim, _↔_}
 use mathlib.Core.Path.{_≡_, refl, sym, _∙_}
@@ -31,8 +30,8 @@ module _ (controller : ℕ) (edit : List ℕ) where
       let some = eqb-false (rowOf controller .width) 0 (not-true _ (a .1 .0)) in
       record { long = leb-true _ _ (a .0); listed = omega arith; chosen = a .1 .1 .0 }
 
-  pub passes : Allowed controller edit → AllHold (backTests (rowOf controller) edit)
-  passes o = let l = o .listed in (le-leb _ _ (o .long), (rw (ne-eqb (rowOf controller .width) 0 (λ e. omega arith)), (o .chosen, tt)))
+  pub all-hold : Allowed controller edit → AllHold (backTests (rowOf controller) edit)
+  all-hold o = let l = o .listed in (le-leb _ _ (o .long), (rw (ne-eqb (rowOf controller .width) 0 (λ e. omega arith)), (o .chosen, tt)))
 
 module _ (controller value : ℕ) (edit : List ℕ) where
   -- Applying is its tests, in their order, in front of the store.
@@ -67,7 +66,7 @@ module _ (controller value : ℕ) (edit : List ℕ) where
   pub applied : Allowed controller edit → value ≤ rowOf controller .highest
       → applyOf controller value edit ≡ changed Applied (storeRow (rowOf controller) value edit)
   unfolding applyOf
-  applied o h = let p = passes controller edit o in tested-passed (applyTests (rowOf controller) value edit) (unchanged edit) _ (p .0, (p .1 .0, (le-leb _ _ h, p .1 .1)))
+  applied o h = let p = all-hold controller edit o in tested-passed (applyTests (rowOf controller) value edit) (unchanged edit) _ (p .0, (p .1 .0, (le-leb _ _ h, p .1 .1)))
 
   pub applied-only : applyOf controller value edit .answer ≡ Applied → Allowed controller edit × (value ≤ rowOf controller .highest)
   applied-only =

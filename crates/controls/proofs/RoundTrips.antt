@@ -21,8 +21,8 @@ use Rattle.controls.specs.Showing.{shownOf, backTests, backOf}
 use Rattle.controls.specs.Meaning.{Allowed, Gives, Smallest, NoneGives}
 use Rattle.controls.proofs.Bytes.{read-put, put-read}
 use Rattle.controls.proofs.Rows.{row-sane, shared-beyond}
-use Rattle.controls.proofs.Back.{kind, row-shown, gives-again, next-room, least-given}
-use Rattle.controls.proofs.Controllers.{allowed, passes, applied, only-its-bytes, length-kept}
+use Rattle.controls.proofs.Back.{formed, row-shown, gives-again, next-room, least-given}
+use Rattle.controls.proofs.Controllers.{allowed, all-hold, applied, only-its-bytes, length-kept}
 
 module _ (controller : ℕ) (edit : List ℕ) where
   -- What is shown is the smallest value that gives the stored number.
@@ -34,7 +34,7 @@ module _ (controller : ℕ) (edit : List ℕ) where
       (λ a e. ⊎-elim
       (λ s. let same : s .0 ≡ value = cc in (allowed controller edit a, rw same at (s .2)))
       (λ s. let z : _≡_ {A = ℕ} 0 1 = cc in absurd (omega arith))
-      (row-shown controller (kind controller) (numberIn r edit)))
+      (row-shown controller (formed controller) (numberIn r edit)))
       (λ _ _ e. let z : _≡_ {A = ℕ} 0 1 = cc in absurd (omega arith))
 
   -- 40 is answered exactly where no value of the controller's range gives the stored number.
@@ -46,23 +46,23 @@ module _ (controller : ℕ) (edit : List ℕ) where
       (λ a e. ⊎-elim
       (λ s. let z : _≡_ {A = ℕ} 0 1 = cc in absurd (omega arith))
       (λ s. (allowed controller edit a, s .1))
-      (row-shown controller (kind controller) (numberIn r edit)))
+      (row-shown controller (formed controller) (numberIn r edit)))
       (λ number f e.
       let same : number ≡ 40 = cc in
       absurd (first-named (λ n. n ≡ 40 → ⊥) f ((λ _. omega arith), λ _. ((λ _. omega arith), λ _. ((λ _. omega arith), λ _. tt))) same))
 
   back-allowed : Allowed controller edit → backOf controller edit ≡ shownOf (rowOf controller) (numberIn (rowOf controller) edit)
   unfolding backOf
-  back-allowed o = tested-passed (backTests (rowOf controller) edit) Refused _ (passes controller edit o)
+  back-allowed o = tested-passed (backTests (rowOf controller) edit) Refused _ (all-hold controller edit o)
 
   pub none-40 : Allowed controller edit → NoneGives (rowOf controller) (numberIn (rowOf controller) edit) → backOf controller edit ≡ Refused 40
   none-40 o n =
       back-allowed o
-      ∙ ⊎-elim (λ s. absurd (n (s .0) (s .2 .within) (s .2 .gives))) (λ s. s .0) (row-shown controller (kind controller) (numberIn (rowOf controller) edit))
+      ∙ ⊎-elim (λ s. absurd (n (s .0) (s .2 .within) (s .2 .gives))) (λ s. s .0) (row-shown controller (formed controller) (numberIn (rowOf controller) edit))
 
   -- Req 01: "a stored 0 in these three fields now gives 40", and so does every number below the row's least.
   pub below-least : Allowed controller edit → numberIn (rowOf controller) edit < rowOf controller .least → backOf controller edit ≡ Refused 40
-  below-least o below = none-40 o (λ v h g. let least = least-given controller (kind controller) v (numberIn (rowOf controller) edit) g in omega arith)
+  below-least o below = none-40 o (λ v h g. let least = least-given controller (formed controller) v (numberIn (rowOf controller) edit) g in omega arith)
 
   -- A value that is shown back, applied again, changes no byte.
   pub shown-applied : (value : ℕ) → allAtMost 0xFF edit ≡ true → backOf controller edit ≡ Value value → applyOf controller value edit ≡ changed Applied edit
@@ -84,7 +84,7 @@ module _ (controller value : ℕ) (edit : List ℕ) (o : Allowed controller edit
       let r = rowOf controller in
       let long = o .long in
       let inside = row-sane controller .inside in
-      rw (applied controller value edit o h) (read-put (r .width) (r .place) _ edit (omega arith) (next-room controller (kind controller) value (numberIn r edit) h))
+      rw (applied controller value edit o h) (read-put (r .width) (r .place) _ edit (omega arith) (next-room controller (formed controller) value (numberIn r edit) h))
 
   -- the effect stays selected: byte 46 is not shared, and what needs no effect is selected at any byte
   still-allowed : Allowed controller after
@@ -104,8 +104,8 @@ module _ (controller value : ℕ) (edit : List ℕ) (o : Allowed controller edit
   applied-shown =
       let r = rowOf controller in
       let low = row-sane controller .low in
-      let gives : Gives r (numberIn r after) value = rw stored-after (gives-again controller (kind controller) value (numberIn r edit) (omega arith)) in
+      let gives : Gives r (numberIn r after) value = rw stored-after (gives-again controller (formed controller) value (numberIn r edit) (omega arith)) in
       ⊎-elim
       (λ s. let not-more : value < s .0 → ⊥ = λ l. s .2 .none-smaller value l gives in (s .0, back-allowed controller after still-allowed ∙ s .1, s .2, omega arith))
       (λ s. absurd (s .1 value h gives))
-      (row-shown controller (kind controller) (numberIn r after))
+      (row-shown controller (formed controller) (numberIn r after))
