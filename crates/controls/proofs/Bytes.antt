@@ -1,8 +1,8 @@
 -- Laws of a field's bytes.
-use Prim.Native.Nat.{ℕ, zero, suc, _+_, _*_, _/_, _%_, _≤_, _<_}
+use Prim.Native.Nat.{ℕ, zero, suc, _+_, _*_, _/_, _%_, _≤_}
 use mathlib.Core.Bool.{true}
 use mathlib.Core.List.{List}
-use mathlib.Core.Logic.{_⊎_, inl, inr, ⊎-elim}
+use mathlib.Core.Logic.{inl, inr, ⊎-elim}
 use mathlib.Core.Path.{_≡_, refl, _∙_}
 use native.Mathlib.Omega.{arith}
 use lib.ListN.{length, getD, set, length-set}
@@ -10,14 +10,11 @@ use lib.Seq.{getD-set-same, getD-set-other, set-getD}
 use Rattle.ground.specs.Lists.{allAtMost}
 use Rattle.ground.proofs.Lists.{at-most-at}
 use Rattle.controls.specs.Fields.{readAt, putAt}
+use Rattle.controls.specs.Meaning.{Outside}
 
 pub length-put : (width place number : ℕ) (edit : List ℕ) → length (putAt width place number edit) ≡ length edit
 length-put zero place number edit = refl
 length-put (suc width) place number edit = length-put width (place + 1) (number / 256) (set edit place (number % 256)) ∙ length-set edit place (number % 256)
-
--- a byte before the field, or behind it
-abbrev pub Outside : ℕ → ℕ → ℕ → Type 0
-Outside width place k = (k < place) ⊎ (place + width ≤ k)
 
 narrower : (width place k : ℕ) → Outside (suc width) place k → Outside width (place + 1) k
 narrower width place k o = ⊎-elim (λ before. inl (omega arith)) (λ behind. inr (omega arith)) o

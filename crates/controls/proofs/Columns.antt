@@ -1,24 +1,22 @@
 -- Laws of the sheet: its rule at each place, and which rows' numbers it has.
 use Prim.Native.Nat.{ℕ, _+_, _*_, _/_, _%_, _≤_, max}
-use mathlib.Core.Bool.{Bool, false, cond}
+use mathlib.Core.Bool.{Bool, cond, not, _&&_}
 use mathlib.Core.Path.{_≡_, refl, _∙_}
 use native.Mathlib.Omega.{arith}
 use lib.Dec.{eqb, leb}
 use lib.ListN.{getD}
-use borrow.Author.Tests.{eqb-true, leb-true, le-ltb}
-use Rattle.ground.proofs.Tests.{past}
+use borrow.Author.Tests.{eqb-true, leb-true, le-leb}
+use Rattle.ground.proofs.Tests.{both}
+use Rattle.ground.proofs.InOrder.{tested-passed}
 use Rattle.ground.proofs.Computed.{column, column-at, every-at}
 use Rattle.controls.specs.declared.Row.{Row}
-use Rattle.controls.specs.declared.Reading.the-variants.{Value}
+use Rattle.controls.specs.declared.Reading.the-variants.{Value, Refused}
 use Rattle.controls.specs.Formulas.{m-upper, m-lower, v×50, v×256/42, v×25, numberBy, numberFor}
-use Rattle.controls.specs.Table.{Sane, rows, rowOf}
-use Rattle.controls.specs.Sheet.{columns, onSheet}
-use Rattle.controls.specs.Scaling.{scaleOf}
+use Rattle.controls.specs.Table.{rows, rowOf}
+use Rattle.controls.specs.Sheet.{columns, onSheet, sheetRule}
+use Rattle.controls.specs.Scaling.{scaleTests, scaleOf}
+use Rattle.controls.specs.Private.{Sane}
 use Rattle.controls.proofs.Rows.{fact, row-sane}
-
--- what stands at place k: column after column
-abbrev pub sheetRule : ℕ → ℕ
-sheetRule k = onSheet (k / 128) (k % 128)
 
 -- the rule at a column and a value
 pub in-column : (c v : ℕ) → c ≤ 5 → v ≤ 127 → getD (column sheetRule 768) (128 * c + v) 0 ≡ onSheet c v
@@ -37,32 +35,34 @@ leastOf formula =
 
 least-of : (controller : ℕ) → rowOf controller .least ≡ leastOf (rowOf controller .formula)
 unfolding rows rowOf
-least-of controller = eqb-true _ _ (fact (λ _ r. eqb (r .least) (leastOf (r .formula))) (λ _. refl) refl controller)
+least-of controller = eqb-true _ _ (fact (λ r. eqb (r .least) (leastOf (r .formula))) refl controller)
 
--- a row's number goes by its formula
-pub by-formula : (r : Row) (v : ℕ) → Sane r → numberFor r v ≡ max (numberBy (r .formula) v) (leastOf (r .formula))
+-- so a row's number goes by its formula
+pub by-least : (r : Row) (v : ℕ) → Sane r → numberFor r v ≡ max (numberBy (r .formula) v) (leastOf (r .formula))
 unfolding numberFor
-by-formula r v sane = rw (sane .of-table .1) (rw (least-of (sane .of-table .0)))
+by-least r v sane = rw (sane .of-table .1) (rw (least-of (sane .of-table .0)))
 
 module _ (r : Row) (v number : ℕ) (sane : Sane r) where
   pub at-formula : (formula : ℕ) → r .formula ≡ formula → number ≡ max (numberBy formula v) (leastOf formula) → number ≡ numberFor r v
-  at-formula formula is e = e ∙ (rw (by-formula r v sane, is))
+  at-formula formula is e = e ∙ (rw (by-least r v sane, is))
 
-  -- so it is that of any controller with its formula
   pub at-controller : (controller : ℕ) → r .formula ≡ rowOf controller .formula → number ≡ numberFor (rowOf controller) v → number ≡ numberFor r v
-  at-controller controller is e = at-formula (rowOf controller .formula) is (e ∙ by-formula (rowOf controller) v (row-sane controller))
+  at-controller controller is e = at-formula (rowOf controller .formula) is (e ∙ by-least (rowOf controller) v (row-sane controller))
+
+-- Controllers with the same formula have the same number for a value.
+pub by-formula : (a b v : ℕ) → rowOf a .formula ≡ rowOf b .formula → numberFor (rowOf b) v ≡ numberFor (rowOf a) v
+by-formula a b v is = at-controller (rowOf a) v _ (row-sane a) b is refl
 
 -- Scaling refuses no value of a column's controller.
 abbrev scales : Row → Bool
-scales r = cond (eqb (r .width) 0) false (cond (eqb (r .formula) m-upper) false (cond (eqb (r .formula) m-lower) false (leb 127 (r .highest))))
+scales r = not (eqb (r .width) 0) && (not (eqb (r .formula) m-upper) && (not (eqb (r .formula) m-lower) && leb 127 (r .highest)))
 
 pub scaled-in : (c v : ℕ) → c ≤ 5 → v ≤ 127 → scaleOf (getD columns c 0) v ≡ Value (onSheet c v)
 unfolding scaleOf rows rowOf
 scaled-in c v h l =
     let r = rowOf (getD columns c 0) in
-    let all = every-at (λ k. scales (rowOf (getD columns k 0))) 6 refl c (omega arith) in
-    let some = past (eqb (r .width) 0) _ all in
-    let not-upper = past (eqb (r .formula) m-upper) _ (some .1) in
-    let not-lower = past (eqb (r .formula) m-lower) _ (not-upper .1) in
+    let listed = both (not (eqb (r .width) 0)) _ (every-at (λ k. scales (rowOf (getD columns k 0))) 6 refl c (omega arith)) in
+    let not-upper = both (not (eqb (r .formula) m-upper)) _ (listed .1) in
+    let not-lower = both (not (eqb (r .formula) m-lower)) _ (not-upper .1) in
     let highest = leb-true 127 (r .highest) (not-lower .1) in
-    rw (some .0, not-upper .0, not-lower .0, le-ltb (r .highest) v (omega arith))
+    tested-passed (scaleTests r v) Refused _ (listed .0, (not-upper .0, (not-lower .0, (le-leb v (r .highest) (omega arith), tt))))

@@ -1,79 +1,88 @@
 -- The theorems of applying, for every controller, value and edit buffer.
 use Prim.Native.Nat.{ℕ, _≤_, _<_}
-use mathlib.Core.Bool.{true, false}
 use mathlib.Core.List.{List}
-use mathlib.Core.Logic.{_⊎_, ⊎-elim}
-use mathlib.Core.Path.{_≡_, refl}
+use mathlib.Core.Logic.{⊎-elim, _↔_}
+use mathlib.Core.Path.{_≡_, refl, sym, _∙_}
 use native.Mathlib.Omega.{arith}
-use lib.Dec.{eqb, ltb}
 use lib.ListN.{length, getD}
-use borrow.Author.Tests.{le-ltb, ne-eqb, ltb-true, ltb-false, eqb-false}
-use Rattle.ground.proofs.Tests.{by}
+use borrow.Author.Tests.{le-leb, ne-eqb, leb-true, leb-false, eqb-false, not-true}
+use Rattle.ground.specs.Tests.{tested, AllHold, FirstToFail}
+use Rattle.ground.proofs.InOrder.{tested-failed, tested-passed, tested-cases, tested-exactly, tested-map, first-named}
+use Rattle.programs.specs.Memory.{programSize}
 use Rattle.controls.specs.declared.Row.{Row}
-use Rattle.controls.specs.declared.Change.the-variants as change
-use Rattle.controls.specs.Answers.{numberOf}
-use Rattle.controls.specs.Table.{programSize, chorus, rotary, rows, rowOf, selections, effectOf, selected}
-use Rattle.controls.specs.Applying.{Left, left, store, applyOf}
-use Rattle.controls.proofs.Bytes.{Outside, length-put, put-outside}
+use Rattle.controls.specs.declared.Change.the-variants.{Applied, Refused}
+use Rattle.controls.specs.Answers.{changeNumber}
+use Rattle.controls.specs.Table.{chorus, rotary, rows, rowOf, selections, effectOf, selected}
+use Rattle.controls.specs.Applying.{Changed, changed, unchanged, storeRow, applyTests, applyOf}
+use Rattle.controls.specs.Showing.{backTests}
+use Rattle.controls.specs.Meaning.{Allowed, Outside, Flanger, RotaryMove}
+use Rattle.controls.proofs.Bytes.{length-put, put-outside}
 use Rattle.controls.proofs.Rows.{beside-46}
 
--- the buffer is long enough, the controller is in the table, and its effect is selected
-pub record Open (controller : ℕ) (edit : List ℕ) : Type 0 where
-  pub long : programSize ≤ length edit
-  pub listed : 1 ≤ rowOf controller .width
-  pub chosen : selected (rowOf controller .effect) (getD edit 46 0) ≡ true
-
-pub store-length : (r : Row) (value : ℕ) (edit : List ℕ) → length (store r value edit) ≡ length edit
-unfolding store
+pub store-length : (r : Row) (value : ℕ) (edit : List ℕ) → length (storeRow r value edit) ≡ length edit
+unfolding storeRow
 store-length r value edit = length-put (r .width) (r .place) _ edit
 
+-- the tests of showing back, which applying has too, hold exactly where row and effect allow
+module _ (controller : ℕ) (edit : List ℕ) where
+  pub allowed : AllHold (backTests (rowOf controller) edit) → Allowed controller edit
+  allowed a =
+      let some = eqb-false (rowOf controller .width) 0 (not-true _ (a .1 .0)) in
+      record { long = leb-true _ _ (a .0); listed = omega arith; chosen = a .1 .1 .0 }
+
+  pub all-hold : Allowed controller edit → AllHold (backTests (rowOf controller) edit)
+  all-hold o = let l = o .listed in (le-leb _ _ (o .long), (rw (ne-eqb (rowOf controller .width) 0 (λ e. omega arith)), (o .chosen, tt)))
+
 module _ (controller value : ℕ) (edit : List ℕ) where
+  -- Applying is its tests, in their order, in front of the store.
+  pub applied-tested : applyOf controller value edit
+      ≡ tested (applyTests (rowOf controller) value edit) (unchanged edit) (changed Applied (storeRow (rowOf controller) value edit))
+  unfolding applyOf
+  applied-tested = refl
+
+  -- So a refusal is that of the first test that fails, and of no other.
+  pub apply-exactly : (number : ℕ) → (applyOf controller value edit .answer ≡ Refused number) ↔ FirstToFail (applyTests (rowOf controller) value edit) number
+  unfolding applyOf
+  apply-exactly number =
+      let tests = applyTests (rowOf controller) value edit in
+      let answer = tested-map (λ (x : Changed). x .answer) tests (unchanged edit) _ in
+      (λ e. tested-exactly tests Refused Applied number (λ z. let no : _≡_ {A = ℕ} 0 1 = cc in omega arith) (λ m n same. cc) (sym answer ∙ e), λ f. answer ∙ tested-failed Refused Applied f)
+
   -- what holds of 30 for a short buffer, of 17, 18 and 19, and of the stored number where the move is allowed, holds of applying
-  pub apply-cases : (P : Left → Type 0) → (length edit < programSize → P (left (change.Refused 30) edit))
-      → ((number : ℕ) → 17 ≤ number → number ≤ 19 → P (left (change.Refused number) edit))
-      → (Open controller edit → value ≤ rowOf controller .highest → P (left change.Applied (store (rowOf controller) value edit)))
+  pub apply-cases : (P : Changed → Type 0) → (length edit < programSize → P (changed (Refused 30) edit))
+      → ((number : ℕ) → 17 ≤ number → number ≤ 19 → P (changed (Refused number) edit))
+      → (Allowed controller edit → value ≤ rowOf controller .highest → P (changed Applied (storeRow (rowOf controller) value edit)))
       → P (applyOf controller value edit)
   unfolding applyOf
   apply-cases P short refused applied =
-      let r = rowOf controller in
-      by P (ltb (length edit) programSize) _ _ (λ l. short (ltb-true _ _ l))
-      (λ l. by P (eqb (r .width) 0) _ _ (λ _. refused 17 (omega arith) (omega arith))
-      (λ w. by P (ltb (r .highest) value) _ _ (λ _. refused 18 (omega arith) (omega arith))
-      (λ h. by P (selected (r .effect) (getD edit 46 0)) _ _
-      (λ s. let some = eqb-false (r .width) 0 w in applied (record { long = ltb-false _ _ l; listed = omega arith; chosen = s }) (ltb-false _ _ h))
-      (λ _. refused 19 (omega arith) (omega arith)))))
+      tested-cases P (applyTests (rowOf controller) value edit) _ _
+      (λ a. applied (allowed controller edit (a .0, (a .1 .0, a .1 .1 .1))) (leb-true _ _ (a .1 .1 .0)))
+      (λ _ f. first-named (λ n. P (changed (Refused n) edit)) f (
+        (λ l. short (leb-false _ _ l)),
+        λ _. ((λ _. refused 17 (omega arith) (omega arith)), λ _. ((λ _. refused 18 (omega arith) (omega arith)), λ _. ((λ _. refused 19 (omega arith) (omega arith)), λ _. tt))),
+      ))
 
   -- Applied exactly when row, range and effect allow.
-  pub applied : Open controller edit → value ≤ rowOf controller .highest
-      → applyOf controller value edit ≡ left change.Applied (store (rowOf controller) value edit)
+  pub applied : Allowed controller edit → value ≤ rowOf controller .highest
+      → applyOf controller value edit ≡ changed Applied (storeRow (rowOf controller) value edit)
   unfolding applyOf
-  applied o h =
-      let r = rowOf controller in
-      let l = o .listed in
-      rw (le-ltb (length edit) programSize (o .long), ne-eqb (r .width) 0 (λ e. omega arith), le-ltb (r .highest) value h, o .chosen)
+  applied o h = let p = all-hold controller edit o in tested-passed (applyTests (rowOf controller) value edit) (unchanged edit) _ (p .0, (p .1 .0, (le-leb _ _ h, p .1 .1)))
 
-  pub applied-only : applyOf controller value edit .answer ≡ change.Applied → Open controller edit × (value ≤ rowOf controller .highest)
+  pub applied-only : applyOf controller value edit .answer ≡ Applied → Allowed controller edit × (value ≤ rowOf controller .highest)
   applied-only =
-      apply-cases (λ x. x .answer ≡ change.Applied → Open controller edit × (value ≤ rowOf controller .highest))
+      apply-cases (λ x. x .answer ≡ Applied → Allowed controller edit × (value ≤ rowOf controller .highest))
       (λ _ e. let z : _≡_ {A = ℕ} 0 1 = cc in absurd (omega arith))
       (λ _ _ _ e. let z : _≡_ {A = ℕ} 0 1 = cc in absurd (omega arith))
       (λ o h e. (o, h))
 
-  not-selected : programSize ≤ length edit → 1 ≤ rowOf controller .width → value ≤ rowOf controller .highest
-      → selected (rowOf controller .effect) (getD edit 46 0) ≡ false → applyOf controller value edit ≡ left (change.Refused 19) edit
-  unfolding applyOf
-  not-selected long some h s =
-      let r = rowOf controller in
-      rw (le-ltb (length edit) programSize long, ne-eqb (r .width) 0 (λ e. omega arith), le-ltb (r .highest) value h, s)
-
   -- A refusal changes no byte.
-  pub refused-nothing : (numberOf (applyOf controller value edit .answer) ≡ 3 → ⊥) → applyOf controller value edit .edit ≡ edit
-  refused-nothing = apply-cases (λ x. (numberOf (x .answer) ≡ 3 → ⊥) → x .edit ≡ edit) (λ _ _. refl) (λ _ _ _ _. refl) (λ _ _ n. absurd (n refl))
+  pub refused-nothing : (changeNumber (applyOf controller value edit .answer) ≡ 3 → ⊥) → applyOf controller value edit .edit ≡ edit
+  refused-nothing = apply-cases (λ x. (changeNumber (x .answer) ≡ 3 → ⊥) → x .edit ≡ edit) (λ _ _. refl) (λ _ _ _ _. refl) (λ _ _ n. absurd (n refl))
 
   -- Only its row's bytes change.
   pub only-its-bytes : (k : ℕ) → Outside (rowOf controller .width) (rowOf controller .place) k
       → getD (applyOf controller value edit .edit) k 0 ≡ getD edit k 0
-  unfolding store
+  unfolding storeRow
   only-its-bytes k o =
       apply-cases (λ x. getD (x .edit) k 0 ≡ getD edit k 0)
       (λ _. refl)
@@ -87,13 +96,6 @@ module _ (controller value : ℕ) (edit : List ℕ) where
 pub only-19-selects : (controller value : ℕ) (edit : List ℕ) → (controller ≡ 19 → ⊥) → getD (applyOf controller value edit .edit) 46 0 ≡ getD edit 46 0
 only-19-selects controller value edit other = only-its-bytes controller value edit 46 (beside-46 controller other)
 
--- "Our old program wrote a rotary move there while a flanger was selected." 000: the flangers are 1, 3, 13 and 15.
-abbrev pub Flanger : ℕ → Type 0
-Flanger byte46 = (byte46 ≡ 1) ⊎ ((byte46 ≡ 3) ⊎ ((byte46 ≡ 13) ⊎ (byte46 ≡ 15)))
-
-abbrev pub RotaryMove : ℕ → Type 0
-RotaryMove controller = (controller ≡ 55) ⊎ ((controller ≡ 56) ⊎ (controller ≡ 57))
-
 flanger-effect : (byte46 : ℕ) → Flanger byte46 → effectOf byte46 ≡ chorus
 unfolding effectOf selections
 flanger-effect byte46 f = ⊎-elim (λ e. rw e) (λ f. ⊎-elim (λ e. rw e) (λ f. ⊎-elim (λ e. rw e) (λ e. rw e) f) f) f
@@ -106,8 +108,15 @@ rotary-row controller m =
 
 -- The demand's own story: the move is refused with 19, and no byte changes, whatever else the buffer holds.
 pub rotary-under-flanger : (controller value : ℕ) (edit : List ℕ) → RotaryMove controller → value ≤ 127 → programSize ≤ length edit
-    → Flanger (getD edit 46 0) → applyOf controller value edit ≡ left (change.Refused 19) edit
-unfolding selected
+    → Flanger (getD edit 46 0) → applyOf controller value edit ≡ changed (Refused 19) edit
+unfolding applyOf selected
 rotary-under-flanger controller value edit m h long f =
-    let r = rotary-row controller m in
-    not-selected controller value edit long (r .2) (omega arith) (rw (r .0, flanger-effect (getD edit 46 0) f))
+    let r = rowOf controller in
+    let is = rotary-row controller m in
+    rw (
+      le-leb programSize (length edit) long,
+      ne-eqb (r .width) 0 (λ e. omega arith),
+      le-leb value (r .highest) (omega arith),
+      is .0,
+      flanger-effect (getD edit 46 0) f,
+    )

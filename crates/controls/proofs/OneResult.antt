@@ -8,7 +8,7 @@ use Rattle.controls.specs.declared.Change.{Change}
 use Rattle.controls.specs.declared.Reading.{Reading}
 use Rattle.controls.specs.Table.{rowOf}
 use Rattle.controls.specs.Scaling.{scaleOf}
-use Rattle.controls.specs.Applying.{Left, left, applyOf}
+use Rattle.controls.specs.Applying.{Changed, changed, applyOf}
 use Rattle.controls.specs.Showing.{backOf}
 
 pub row-of-one : (controller : ℕ) (r s : Row) → r ≡ rowOf controller → s ≡ rowOf controller → r ≡ s
@@ -18,8 +18,8 @@ pub scale-one : (controller value : ℕ) (r s : Reading) → r ≡ scaleOf contr
 scale-one controller value r s = one
 
 pub apply-one : (controller value : ℕ) (edit : List ℕ) (r s : Change) (x y : List ℕ)
-    → left r x ≡ applyOf controller value edit → left s y ≡ applyOf controller value edit → (r ≡ s) × (x ≡ y)
-apply-one controller value edit r s x y p q = (ap (λ (l : Left). l .answer) (one p q), ap (λ (l : Left). l .edit) (one p q))
+    → changed r x ≡ applyOf controller value edit → changed s y ≡ applyOf controller value edit → (r ≡ s) × (x ≡ y)
+apply-one controller value edit r s x y p q = (ap (λ (c : Changed). c .answer) (one p q), ap (λ (c : Changed). c .edit) (one p q))
 
 pub show-back-one : (controller : ℕ) (edit : List ℕ) (r s : Reading) → r ≡ backOf controller edit → s ≡ backOf controller edit → r ≡ s
 show-back-one controller edit r s = one

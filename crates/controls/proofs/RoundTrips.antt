@@ -3,155 +3,109 @@ use Prim.Native.Nat.{ℕ, _≤_, _<_}
 use mathlib.Core.Bool.{true}
 use mathlib.Core.List.{List}
 use mathlib.Core.Logic.{inl, ⊎-elim}
-use mathlib.Core.Path.{_≡_, refl, sym, ap, _∙_}
+use mathlib.Core.Path.{_≡_, refl, ap, _∙_}
 use native.Mathlib.Omega.{arith}
-use lib.Dec.{eqb, ltb}
-use lib.ListN.{length, getD}
-use borrow.Author.Tests.{le-ltb, ne-eqb, ltb-false, eqb-false}
+use lib.Dec.{eqb}
+use lib.ListN.{getD}
 use Rattle.ground.specs.Lists.{allAtMost}
 use Rattle.ground.proofs.Tests.{by}
+use Rattle.ground.proofs.InOrder.{tested-passed, tested-cases, first-named}
 use Rattle.controls.specs.declared.Reading.{Reading}
 use Rattle.controls.specs.declared.Reading.the-variants.{Value, Refused}
-use Rattle.controls.specs.declared.Change.the-variants as change
-use Rattle.controls.specs.Formulas.{numberFor, mOf, nextFor}
-use Rattle.controls.specs.Table.{programSize, none, rowOf, effectOf, selected}
-use Rattle.controls.specs.Fields.{readAt}
-use Rattle.controls.specs.Applying.{left, store, applyOf}
-use Rattle.controls.specs.Showing.{shownOf, backOf}
-use Rattle.controls.proofs.Bytes.{above, length-put, put-outside, read-put, put-read}
-use Rattle.controls.proofs.Rows.{row-sane, whole-upper, whole-lower, number-room, shared-beyond}
-use Rattle.controls.proofs.Back.{Smallest, NoneGives, Shown, shown, next-upper, next-lower, next-plain, which-formula, m-small, gives-again}
-use Rattle.controls.proofs.Controllers.{Open, applied}
-
--- the number that stands in a controller's bytes
-abbrev pub stored : ℕ → List ℕ → ℕ
-stored controller edit = readAt (rowOf controller .width) (rowOf controller .place) edit
+use Rattle.controls.specs.declared.Change.the-variants.{Applied}
+use Rattle.controls.specs.Formulas.{nextFor}
+use Rattle.controls.specs.Table.{none, rowOf, effectOf, selected}
+use Rattle.controls.specs.Fields.{numberIn}
+use Rattle.controls.specs.Applying.{changed, storeRow, applyOf}
+use Rattle.controls.specs.Showing.{shownOf, backTests, backOf}
+use Rattle.controls.specs.Meaning.{Allowed, Gives, Smallest, NoneGives}
+use Rattle.controls.proofs.Bytes.{read-put, put-read}
+use Rattle.controls.proofs.Rows.{row-sane, shared-beyond}
+use Rattle.controls.proofs.Back.{formed, row-shown, gives-again, next-room, least-given}
+use Rattle.controls.proofs.Controllers.{allowed, all-hold, applied, only-its-bytes, length-kept}
 
 module _ (controller : ℕ) (edit : List ℕ) where
-  back-cases : (P : Reading → Type 0) → P (Refused 30) → P (Refused 17) → P (Refused 19)
-      → (Open controller edit → P (shownOf (rowOf controller) (stored controller edit))) → P (backOf controller edit)
+  -- What is shown is the smallest value that gives the stored number.
+  pub shown-smallest : (value : ℕ) → backOf controller edit ≡ Value value → Allowed controller edit × Smallest (rowOf controller) (numberIn (rowOf controller) edit) value
   unfolding backOf
-  back-cases P short unknown other showing =
+  shown-smallest value =
       let r = rowOf controller in
-      by P (ltb (length edit) programSize) _ _ (λ _. short)
-      (λ l. by P (eqb (r .width) 0) _ _ (λ _. unknown)
-      (λ w. by P (selected (r .effect) (getD edit 46 0)) _ _
-      (λ s. let some = eqb-false (r .width) 0 w in showing (record { long = ltb-false _ _ l; listed = omega arith; chosen = s }))
-      (λ _. other)))
+      tested-cases (λ (x : Reading). x ≡ Value value → Allowed controller edit × Smallest r (numberIn r edit) value) (backTests r edit) Refused _
+      (λ a e. ⊎-elim
+      (λ s. let same : s .0 ≡ value = cc in (allowed controller edit a, rw same at (s .2)))
+      (λ s. let z : _≡_ {A = ℕ} 0 1 = cc in absurd (omega arith))
+      (row-shown controller (formed controller) (numberIn r edit)))
+      (λ _ _ e. let z : _≡_ {A = ℕ} 0 1 = cc in absurd (omega arith))
 
-  back-open : Open controller edit → backOf controller edit ≡ shownOf (rowOf controller) (stored controller edit)
+  -- 40 is answered exactly where no value of the controller's range gives the stored number.
+  pub shown-40 : backOf controller edit ≡ Refused 40 → Allowed controller edit × NoneGives (rowOf controller) (numberIn (rowOf controller) edit)
   unfolding backOf
-  back-open o =
+  shown-40 =
       let r = rowOf controller in
-      let l = o .listed in
-      rw (le-ltb (length edit) programSize (o .long), ne-eqb (r .width) 0 (λ e. omega arith), o .chosen)
+      tested-cases (λ (x : Reading). x ≡ Refused 40 → Allowed controller edit × NoneGives r (numberIn r edit)) (backTests r edit) Refused _
+      (λ a e. ⊎-elim
+      (λ s. let z : _≡_ {A = ℕ} 0 1 = cc in absurd (omega arith))
+      (λ s. (allowed controller edit a, s .1))
+      (row-shown controller (formed controller) (numberIn r edit)))
+      (λ number f e.
+      let same : number ≡ 40 = cc in
+      absurd (first-named (λ n. n ≡ 40 → ⊥) f ((λ _. omega arith), λ _. ((λ _. omega arith), λ _. ((λ _. omega arith), λ _. tt))) same))
 
-row-shown : (controller number : ℕ) → Shown (rowOf controller) number (shownOf (rowOf controller) number)
-row-shown controller number = shown (rowOf controller) number (row-sane controller .low) (λ t. whole-upper controller t .0) (λ t. whole-lower controller t .0)
+  back-allowed : Allowed controller edit → backOf controller edit ≡ shownOf (rowOf controller) (numberIn (rowOf controller) edit)
+  unfolding backOf
+  back-allowed o = tested-passed (backTests (rowOf controller) edit) Refused _ (all-hold controller edit o)
 
--- What is shown is the smallest value that gives the stored number.
-pub shown-smallest : (controller : ℕ) (edit : List ℕ) (value : ℕ) → backOf controller edit ≡ Value value
-    → Open controller edit × Smallest (rowOf controller) (stored controller edit) value
-shown-smallest controller edit value =
-    let r = rowOf controller in
-    let Goal : Reading → Type 0 = λ x. x ≡ Value value → Open controller edit × Smallest r (stored controller edit) value in
-    let never : (number : ℕ) → Goal (Refused number) = λ number e. let z : _≡_ {A = ℕ} 0 1 = cc in absurd (omega arith) in
-    back-cases controller edit Goal (never 30) (never 17) (never 19)
-    (λ o e. ⊎-elim
-    (λ s. let same : s .0 ≡ value = cc in (o, rw same at (s .2)))
-    (λ s. let z : _≡_ {A = ℕ} 0 1 = cc in absurd (omega arith))
-    (row-shown controller (stored controller edit)))
+  pub none-40 : Allowed controller edit → NoneGives (rowOf controller) (numberIn (rowOf controller) edit) → backOf controller edit ≡ Refused 40
+  none-40 o n =
+      back-allowed o
+      ∙ ⊎-elim (λ s. absurd (n (s .0) (s .2 .within) (s .2 .gives))) (λ s. s .0) (row-shown controller (formed controller) (numberIn (rowOf controller) edit))
 
--- 40 is answered exactly where no value of the controller's range gives the stored number.
-pub shown-40 : (controller : ℕ) (edit : List ℕ) → backOf controller edit ≡ Refused 40 → Open controller edit × NoneGives (rowOf controller) (stored controller edit)
-shown-40 controller edit =
-    let r = rowOf controller in
-    let Goal : Reading → Type 0 = λ x. x ≡ Refused 40 → Open controller edit × NoneGives r (stored controller edit) in
-    let never : (number : ℕ) → (number ≡ 40 → ⊥) → Goal (Refused number) = λ number differs e. let same : number ≡ 40 = cc in absurd (differs same) in
-    back-cases controller edit Goal (never 30 (omega arith)) (never 17 (omega arith)) (never 19 (omega arith))
-    (λ o e. ⊎-elim
-    (λ s. let z : _≡_ {A = ℕ} 0 1 = cc in absurd (omega arith))
-    (λ s. (o, s .1))
-    (row-shown controller (stored controller edit)))
+  -- Req 01: "a stored 0 in these three fields now gives 40", and so does every number below the row's least.
+  pub below-least : Allowed controller edit → numberIn (rowOf controller) edit < rowOf controller .least → backOf controller edit ≡ Refused 40
+  below-least o below = none-40 o (λ v h g. let least = least-given controller (formed controller) v (numberIn (rowOf controller) edit) g in omega arith)
 
-pub none-40 : (controller : ℕ) (edit : List ℕ) → Open controller edit → NoneGives (rowOf controller) (stored controller edit) → backOf controller edit ≡ Refused 40
-none-40 controller edit o n =
-    back-open controller edit o
-    ∙ ⊎-elim (λ s. absurd (n (s .0) (s .2 .within) (s .2 .gives))) (λ s. s .0) (row-shown controller (stored controller edit))
+  -- A value that is shown back, applied again, changes no byte.
+  pub shown-applied : (value : ℕ) → allAtMost 0xFF edit ≡ true → backOf controller edit ≡ Value value → applyOf controller value edit ≡ changed Applied edit
+  unfolding storeRow
+  shown-applied value bytes e =
+      let r = rowOf controller in
+      let s = shown-smallest value e in
+      applied controller value edit (s .0) (s .1 .within)
+      ∙ ap (changed Applied) (rw (s .1 .gives) (put-read (r .width) (r .place) edit bytes))
 
--- Req 01: "a stored 0 in these three fields now gives 40", and so does every number below the row's least.
-pub below-least : (controller : ℕ) (edit : List ℕ) → Open controller edit → stored controller edit < rowOf controller .least → backOf controller edit ≡ Refused 40
-unfolding numberFor
-below-least controller edit o below =
-    let r = rowOf controller in
-    let number = stored controller edit in
-    none-40 controller edit o (λ v h g. which-formula (r .formula)
-    (λ t. let z = whole-upper controller t .2 in omega arith)
-    (λ t u. let z = whole-lower controller u .2 in omega arith)
-    (λ t u. let raised = sym (next-plain r v number t u) ∙ g in omega arith))
-
--- A value that is shown back, applied again, changes no byte.
-pub shown-applied : (controller : ℕ) (edit : List ℕ) (value : ℕ) → allAtMost 0xFF edit ≡ true → backOf controller edit ≡ Value value
-    → applyOf controller value edit ≡ left change.Applied edit
-unfolding store
-shown-applied controller edit value bytes e =
-    let r = rowOf controller in
-    let s = shown-smallest controller edit value e in
-    applied controller value edit (s .0) (s .1 .within)
-    ∙ ap (left change.Applied) (rw (s .1 .gives) (put-read (r .width) (r .place) edit bytes))
-
--- the stored number has room in its row's bytes
-next-room : (controller value number : ℕ) → value ≤ rowOf controller .highest
-    → above (rowOf controller .width) (nextFor (rowOf controller) value number) ≡ 0
-next-room controller value number h =
-    let r = rowOf controller in
-    let m = mOf number in
-    let bound = m-small number in
-    let low = row-sane controller .low in
-    which-formula (r .formula)
-    (λ t. rw (next-upper r value number t, whole-upper controller t .1) (omega arith))
-    (λ t u. rw (next-lower r value number t u, whole-lower controller u .1) (omega arith))
-    (λ t u. rw (next-plain r value number t u) (number-room controller value h))
-
-module _ (controller value : ℕ) (edit : List ℕ) (o : Open controller edit) (h : value ≤ rowOf controller .highest) where
+module _ (controller value : ℕ) (edit : List ℕ) (o : Allowed controller edit) (h : value ≤ rowOf controller .highest) where
   abbrev after : List ℕ
-  after = store (rowOf controller) value edit
+  after = applyOf controller value edit .edit
 
-  abbrev next : ℕ
-  next = nextFor (rowOf controller) value (stored controller edit)
-
-  stored-after : stored controller after ≡ next
-  unfolding store
+  -- What is applied stands in its bytes.
+  pub stored-after : numberIn (rowOf controller) (applyOf controller value edit .edit) ≡ nextFor (rowOf controller) value (numberIn (rowOf controller) edit)
+  unfolding storeRow
   stored-after =
       let r = rowOf controller in
       let long = o .long in
       let inside = row-sane controller .inside in
-      read-put (r .width) (r .place) next edit (omega arith) (next-room controller value (stored controller edit) h)
+      rw (applied controller value edit o h) (read-put (r .width) (r .place) _ edit (omega arith) (next-room controller (formed controller) value (numberIn r edit) h))
 
   -- the effect stays selected: byte 46 is not shared, and what needs no effect is selected at any byte
-  still-chosen : selected (rowOf controller .effect) (getD after 46 0) ≡ true
-  unfolding store selected
-  still-chosen =
+  still-allowed : Allowed controller after
+  unfolding selected
+  still-allowed =
       let r = rowOf controller in
-      by (λ x. x ≡ true) (eqb (r .effect) none) true (eqb (r .effect) (effectOf (getD after 46 0))) (λ _. refl)
-      (λ t. rw (put-outside (r .width) (r .place) next edit 46 (inl (shared-beyond controller t))) (rw t at (o .chosen)))
-
-  still-open : Open controller after
-  unfolding store
-  still-open = record {
-    long = rw (length-put (rowOf controller .width) (rowOf controller .place) next edit) (o .long);
-    listed = o .listed;
-    chosen = still-chosen;
-  }
+      record {
+        long = rw (length-kept controller value edit) (o .long);
+        listed = o .listed;
+        chosen = by (λ x. x ≡ true) (eqb (r .effect) none) true (eqb (r .effect) (effectOf (getD after 46 0))) (λ _. refl)
+            (λ t. rw (only-its-bytes controller value edit 46 (inl (shared-beyond controller t))) (rw t at (o .chosen)));
+      }
 
   -- Applied, then shown back, gives the smallest value with the same stored number.
-  pub applied-shown : (w : ℕ) × (backOf controller after ≡ Value w) × Smallest (rowOf controller) next w × (w ≤ value)
+  pub applied-shown : (w : ℕ) × (backOf controller (applyOf controller value edit .edit) ≡ Value w)
+      × Smallest (rowOf controller) (numberIn (rowOf controller) (applyOf controller value edit .edit)) w × (w ≤ value)
   applied-shown =
       let r = rowOf controller in
       let low = row-sane controller .low in
-      let gives = gives-again r value (stored controller edit) (omega arith) in
-      let back : backOf controller after ≡ shownOf r next = rw (← stored-after) (back-open controller after still-open) in
+      let gives : Gives r (numberIn r after) value = rw stored-after (gives-again controller (formed controller) value (numberIn r edit) (omega arith)) in
       ⊎-elim
-      (λ s. let not-more : value < s .0 → ⊥ = λ l. s .2 .none-smaller value l gives in (s .0, back ∙ s .1, s .2, omega arith))
+      (λ s. let not-more : value < s .0 → ⊥ = λ l. s .2 .none-smaller value l gives in (s .0, back-allowed controller after still-allowed ∙ s .1, s .2, omega arith))
       (λ s. absurd (s .1 value h gives))
-      (row-shown controller next)
+      (row-shown controller (formed controller) (numberIn r after))

@@ -1,6 +1,6 @@
 -- Laws of the table: what its list says of each row, and what is found where no entry fits.
 use Prim.Native.Nat.{ℕ, _+_, _≤_, _<_}
-use mathlib.Core.Bool.{Bool, true, false, cond, _&&_, false≢true}
+use mathlib.Core.Bool.{Bool, true, false, cond, _&&_}
 use mathlib.Core.List.{List, [], _∷_}
 use mathlib.Core.Logic.{inl, inr, ⊎-elim}
 use mathlib.Core.Path.{_≡_, refl}
@@ -9,48 +9,48 @@ use lib.Dec.{eqb, leb, ltb}
 use borrow.Author.Tests.{eqb-true, leb-true, ltb-true, ne-eqb}
 use Rattle.ground.proofs.Tests.{both, either, by}
 use Rattle.ground.proofs.Computed.{every, every-at}
+use Rattle.programs.specs.Memory.{programSize}
 use Rattle.controls.specs.declared.Row.{Row}
 use Rattle.controls.specs.Formulas.{m-upper, m-lower, numberBy, numberFor}
-use Rattle.controls.specs.Table.{Entry, programSize, Sane, find, none, rowAs, rows, rowOf}
-use Rattle.controls.proofs.Bytes.{Outside, above}
+use Rattle.controls.specs.Table.{Entry, find, none, unlisted, rows, rowOf}
+use Rattle.controls.specs.Meaning.{Outside}
+use Rattle.controls.specs.Private.{Sane}
+use Rattle.controls.proofs.Bytes.{above}
+
+-- a test that each entry passes, and `other` at any key, passes at what is found
+abbrev allPass : {A : Type 0} → (ℕ → A → Bool) → List (Entry A) → Bool
+allPass test [] = true
+allPass test (e ∷ es) = test (e .key) (e .value) && allPass test es
 
 module _ {A : Type 0} (other : A) where
-  -- a test that each entry passes, and `other` at any key, passes at what is found
-  abbrev pub all : (ℕ → A → Bool) → List (Entry A) → Bool
-  all test [] = true
-  all test (e ∷ es) = test (e .key) (e .value) && all test es
-
-  pub found : (test : ℕ → A → Bool) → ((key : ℕ) → test key other ≡ true) → (es : List (Entry A)) → all test es ≡ true
+  found : (test : ℕ → A → Bool) → ((key : ℕ) → test key other ≡ true) → (es : List (Entry A)) → allPass test es ≡ true
       → (key : ℕ) → test key (find other key es) ≡ true
   found test o [] t key = o key
   found test o (e ∷ es) t key =
-      let p = both (test (e .key) (e .value)) (all test es) t in
+      let p = both (test (e .key) (e .value)) (allPass test es) t in
       by (λ x. test key x ≡ true) (eqb key (e .key)) _ _ (λ same. rw (eqb-true key (e .key) same) (p .0)) (λ _. found test o es (p .1) key)
 
   -- what is known where no arm of a match over the list's keys fits: `Known`, and of each key that it is another
-  abbrev pub Missed : ℕ → List (Entry A) → Type 0 → Type 0
-  Missed key [] Known = Known
-  Missed key (e ∷ es) Known = Missed key es (Known × (key ≡ e .key → ⊥))
+  abbrev pub NoneFits : ℕ → List (Entry A) → Type 0 → Type 0
+  NoneFits key [] Known = Known
+  NoneFits key (e ∷ es) Known = NoneFits key es (Known × (key ≡ e .key → ⊥))
 
-  pub not-found : (key : ℕ) (es : List (Entry A)) (Known : Type 0) → Missed key es Known → Known × (find other key es ≡ other)
+  pub not-found : (key : ℕ) (es : List (Entry A)) (Known : Type 0) → NoneFits key es Known → Known × (find other key es ≡ other)
   not-found key [] Known m = (m, refl)
   not-found key (e ∷ es) Known m =
       let p = not-found key es (Known × (key ≡ e .key → ⊥)) m in
       (p .0 .0, rw (ne-eqb key (e .key) (p .0 .1)) (p .1))
 
--- the row of a controller that is not in the table
-abbrev pub unlisted : Row
-unlisted = rowAs 0 0 0 0 0 none
+-- Facts that hold of every row, each by one test that antt computes over the list, and of the row that is not in it.
+abbrev everyRow : (Row → Bool) → Bool
+everyRow test = test unlisted && allPass (λ _. test) rows
 
--- Facts that hold of every row, each by one test that antt computes over the list.
-implied : (a b : Bool) → cond a b true ≡ true → a ≡ true → b ≡ true
-implied true b t e = t
-implied false b t e = absurd (false≢true e)
-
-pub fact : (test : ℕ → Row → Bool) → ((key : ℕ) → test key unlisted ≡ true) → all unlisted test rows ≡ true
-    → (controller : ℕ) → test controller (rowOf controller) ≡ true
+row-found : (test : ℕ → Row → Bool) → ((key : ℕ) → test key unlisted ≡ true) → allPass test rows ≡ true → (controller : ℕ) → test controller (rowOf controller) ≡ true
 unfolding rowOf
-fact test o t controller = found unlisted test o rows t controller
+row-found test o t = found unlisted test o rows t
+
+pub fact : (test : Row → Bool) → everyRow test ≡ true → (controller : ℕ) → test (rowOf controller) ≡ true
+fact test t = let p = both (test unlisted) (allPass (λ _. test) rows) t in row-found (λ _. test) (λ _. p .0) (p .1)
 
 abbrev isSane : Row → Bool
 isSane r = leb (r .place + r .width) programSize && (leb (r .width) 3 && leb (r .highest) 127)
@@ -67,54 +67,48 @@ abbrev at-each : (Row → ℕ → Bool) → Row → Bool
 at-each test r = every (λ v. test r (numberFor r v)) (r .highest + 1)
 
 module _ (controller : ℕ) where
-  wholes : (formula : ℕ) → whole-m formula unlisted ≡ true → all unlisted (λ _. whole-m formula) rows ≡ true → eqb (rowOf controller .formula) formula ≡ true
-      → Whole (rowOf controller)
-  wholes formula o t e =
+  wholes : (formula : ℕ) → everyRow (whole-m formula) ≡ true → eqb (rowOf controller .formula) formula ≡ true → Whole (rowOf controller)
+  wholes formula t e =
       let r = rowOf controller in
-      let p = both (leb 127 (r .highest)) (eqb (r .width) 3 && eqb (r .least) 0) (implied _ _ (fact (λ _. whole-m formula) (λ _. o) t controller) e) in
-      let q = both (eqb (r .width) 3) (eqb (r .least) 0) (p .1) in
+      let p = both (leb 127 (r .highest)) _ (rw e at (fact (whole-m formula) t controller)) in
+      let q = both (eqb (r .width) 3) _ (p .1) in
       (leb-true _ _ (p .0), eqb-true _ _ (q .0), eqb-true _ _ (q .1))
 
   pub whole-upper : eqb (rowOf controller .formula) m-upper ≡ true → Whole (rowOf controller)
   unfolding rows
-  whole-upper = wholes m-upper refl refl
+  whole-upper = wholes m-upper refl
 
   pub whole-lower : eqb (rowOf controller .formula) m-lower ≡ true → Whole (rowOf controller)
   unfolding rows
-  whole-lower = wholes m-lower refl refl
+  whole-lower = wholes m-lower refl
 
   pub row-sane : Sane (rowOf controller)
   unfolding rows
   row-sane =
       let r = rowOf controller in
-      let p = both (leb (r .place + r .width) programSize) (leb (r .width) 3 && leb (r .highest) 127) (fact (λ _. isSane) (λ _. refl) refl controller) in
-      let q = both (leb (r .width) 3) (leb (r .highest) 127) (p .1) in
+      let p = both (leb (r .place + r .width) programSize) _ (fact isSane refl controller) in
+      let q = both (leb (r .width) 3) _ (p .1) in
       record { inside = leb-true _ _ (p .0); narrow = leb-true _ _ (q .0); low = leb-true _ _ (q .1); of-table = (controller, refl) }
 
   -- what the test says of every row holds of the controller's
-  numbers : (test : Row → ℕ → Bool) → at-each test unlisted ≡ true → all unlisted (λ _. at-each test) rows ≡ true
+  numbers : (test : Row → ℕ → Bool) → everyRow (at-each test) ≡ true
       → (v : ℕ) → v ≤ rowOf controller .highest → test (rowOf controller) (numberFor (rowOf controller) v) ≡ true
-  numbers test o t v h =
-      let r = rowOf controller in
-      every-at (λ v. test r (numberFor r v)) (r .highest + 1) (fact (λ _. at-each test) (λ _. o) t controller) v (omega arith)
+  numbers test t v h = let r = rowOf controller in every-at (λ v. test r (numberFor r v)) (r .highest + 1) (fact (at-each test) t controller) v (omega arith)
 
   -- a row's numbers have room in its bytes
   pub number-room : (v : ℕ) → v ≤ rowOf controller .highest → above (rowOf controller .width) (numberFor (rowOf controller) v) ≡ 0
   unfolding rows numberBy numberFor
-  number-room v h = eqb-true _ _ (numbers (λ r n. eqb (above (r .width) n) 0) refl refl v h)
+  number-room v h = eqb-true _ _ (numbers (λ r n. eqb (above (r .width) n) 0) refl v h)
 
   -- and in two bytes, as scaling gives them
   pub number-low : (v : ℕ) → v ≤ rowOf controller .highest → numberFor (rowOf controller) v < 65536
   unfolding rows numberBy numberFor
-  number-low v h = ltb-true _ _ (numbers (λ _ n. ltb n 65536) refl refl v h)
+  number-low v h = ltb-true _ _ (numbers (λ _ n. ltb n 65536) refl v h)
 
   -- a shared byte is not byte 46
   pub shared-beyond : eqb (rowOf controller .effect) none ≡ false → 46 < rowOf controller .place
   unfolding rows
-  shared-beyond e =
-      let r = rowOf controller in
-      let beyond : ℕ → Row → Bool = λ _ r. cond (eqb (r .effect) none) true (ltb 46 (r .place)) in
-      ltb-true _ _ (rw e at (fact beyond (λ _. refl) refl controller))
+  shared-beyond e = ltb-true _ _ (rw e at (fact (λ r. cond (eqb (r .effect) none) true (ltb 46 (r .place))) refl controller))
 
   -- only 19 has byte 46
   pub beside-46 : (controller ≡ 19 → ⊥) → Outside (rowOf controller .width) (rowOf controller .place) 46
@@ -122,6 +116,5 @@ module _ (controller : ℕ) where
   beside-46 other =
       let beside : ℕ → Row → Bool = λ k r. cond (eqb k 19) true (cond (ltb 46 (r .place)) true (leb (r .place + r .width) 46)) in
       let none-beside : (k : ℕ) → beside k unlisted ≡ true = λ k. by (λ x. x ≡ true) (eqb k 19) true true (λ _. refl) (λ _. refl) in
-      let r = rowOf controller in
       ⊎-elim (λ before. inl (ltb-true _ _ before)) (λ behind. inr (leb-true _ _ behind))
-      (either (ltb 46 (r .place)) (leb (r .place + r .width) 46) (rw (ne-eqb controller 19 other) at (fact beside none-beside refl controller)))
+      (either _ _ (rw (ne-eqb controller 19 other) at (row-found beside none-beside refl controller)))

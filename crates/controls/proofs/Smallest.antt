@@ -1,17 +1,18 @@
 -- Laws of the search for the smallest value.
 use Prim.Native.Nat.{ℕ, zero, suc, _+_, _-_, _≤_, _<_}
-use mathlib.Core.Path.{_≡_, refl}
+use mathlib.Core.Path.{_≡_, refl, sym, _∙_}
 use native.Mathlib.Nat.{lt-of-not-le}
 use native.Mathlib.Omega.{arith}
-use mathlib.Core.Logic.{_⊎_, inl, inr, ⊎-elim}
+use mathlib.Core.Logic.{_⊎_, inl, inr}
 use lib.Dec.{eqb}
 use borrow.Author.Tests.{eq-eqb, ne-eqb, eqb-true, eqb-false}
 use Rattle.ground.proofs.Tests.{by}
 use Rattle.controls.specs.declared.Row.{Row}
 use Rattle.controls.specs.declared.Reading.{Reading}
 use Rattle.controls.specs.declared.Reading.the-variants.{Value, Refused}
-use Rattle.controls.specs.Formulas.{numberFor}
+use Rattle.controls.specs.Formulas.{numberFor, nextFor}
 use Rattle.controls.specs.Showing.{smallest}
+use Rattle.controls.specs.Meaning.{Gives, Smallest, NoneGives}
 
 -- what one turn of the search keeps: the answer from v on is the answer of the whole
 module _ (r : Row) (stored highest v : ℕ) (whole : Reading) (inv : smallest r stored (highest + 1 - v) v ≡ whole) where
@@ -31,48 +32,16 @@ module _ (r : Row) (stored highest v : ℕ) (whole : Reading) (inv : smallest r 
       let nothing : highest + 1 - v ≡ 0 = omega arith in
       rw nothing at inv
 
--- w is the smallest of `count` values from v on that give the stored number
-pub record First (r : Row) (stored count v w : ℕ) : Type 0 where
-  pub from : v ≤ w
-  pub to : w < v + count
-  pub gives : numberFor r w ≡ stored
-  pub none-smaller : (u : ℕ) → v ≤ u → u < w → numberFor r u ≡ stored → ⊥
+-- a stored number is shown by the smallest value that gives it, and as 40 exactly where none does
+abbrev pub Shown : Row → ℕ → Reading → Type 0
+Shown r stored answer = ((w : ℕ) × (answer ≡ Value w) × Smallest r stored w) ⊎ ((answer ≡ Refused 40) × NoneGives r stored)
 
-abbrev pub None : Row → ℕ → ℕ → ℕ → Type 0
-None r stored count v = (u : ℕ) → v ≤ u → u < v + count → numberFor r u ≡ stored → ⊥
-
--- the search finds the smallest one, and answers 40 exactly where there is none
-abbrev pub Searched : Row → ℕ → ℕ → ℕ → Reading → Type 0
-Searched r stored count v answer =
-    ((w : ℕ) × (answer ≡ Value w) × First r stored count v w) ⊎ ((answer ≡ Refused 40) × None r stored count v)
-
-module _ (r : Row) (stored : ℕ) where
-  here : (count v : ℕ) → numberFor r v ≡ stored → First r stored (suc count) v v
-  here count v e = record { from = omega arith; to = omega arith; gives = e; none-smaller = λ u l h q. omega arith }
-
-  -- what is not v is at least v + 1
-  beyond : (v u : ℕ) → (numberFor r v ≡ stored → ⊥) → v ≤ u → numberFor r u ≡ stored → v + 1 ≤ u
-  beyond v u not-here l q =
-      let more : v < u = lt-of-not-le (λ h. let same : u ≡ v = omega arith in not-here (rw same at q)) in
-      omega arith
-
-  later : (count v w : ℕ) → (numberFor r v ≡ stored → ⊥) → First r stored count (v + 1) w → First r stored (suc count) v w
-  later count v w not-here f = record {
-    from = omega (arith, f .from);
-    to = omega (arith, f .to);
-    gives = f .gives;
-    none-smaller = λ u l h q. f .none-smaller u (beyond v u not-here l q) h q;
-  }
-
-  nowhere : (count v : ℕ) → (numberFor r v ≡ stored → ⊥) → None r stored count (v + 1) → None r stored (suc count) v
-  nowhere count v not-here none = λ u l h q. none u (beyond v u not-here l q) (omega arith) q
-
-  pub searched : (count v : ℕ) → Searched r stored count v (smallest r stored count v)
-  searched zero v = inr (refl, λ u l h q. omega arith)
-  searched (suc count) v =
-      by (Searched r stored (suc count) v) (eqb (numberFor r v) stored) _ _
-      (λ t. inl (v, refl, here count v (eqb-true _ _ t)))
-      (λ t. ⊎-elim
-      (λ s. inl (s .0, s .1, later count v (s .0) (eqb-false _ _ t) (s .2)))
-      (λ s. inr (s .0, nowhere count v (eqb-false _ _ t) (s .1)))
-      (searched count (v + 1)))
+-- where a row's number goes by v alone, the search from v on finds the smallest one, if none before v gives the stored number
+pub searched : (r : Row) (stored : ℕ) → ((v : ℕ) → nextFor r v stored ≡ numberFor r v) → (count v : ℕ) → v + count ≡ r .highest + 1
+    → ((u : ℕ) → u < v → Gives r stored u → ⊥) → Shown r stored (smallest r stored count v)
+searched r stored next zero v e none = inr (refl, λ u h g. none u (omega arith) g)
+searched r stored next (suc count) v e none =
+    by (Shown r stored) (eqb (numberFor r v) stored) _ _
+    (λ t. inl (v, refl, record { within = omega arith; gives = next v ∙ eqb-true _ _ t; none-smaller = none }))
+    (λ t. searched r stored next count (v + 1) (omega arith)
+    (λ u l g. none u (lt-of-not-le (λ h. let same : u ≡ v = omega arith in eqb-false _ _ t (rw same at (sym (next u) ∙ g)))) g))

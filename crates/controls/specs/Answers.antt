@@ -6,14 +6,14 @@ use Rattle.controls.specs.declared.Reading.{Reading}
 use Rattle.controls.specs.declared.Reading.the-variants as reading
 
 -- 3 "controller applied", or the refusal
-abbrev pub numberOf : Change → ℕ
-numberOf change.Applied = 3
-numberOf (change.Refused number) = number
+abbrev pub changeNumber : Change → ℕ
+changeNumber change.Applied = 3
+changeNumber (change.Refused number) = number
 
 -- "Here and in scaling a value is told apart from a refusal number": a value has no number
-abbrev pub refusalOf : Reading → ℕ
-refusalOf (reading.Value value) = 0
-refusalOf (reading.Refused number) = number
+abbrev pub readingNumber : Reading → ℕ
+readingNumber (reading.Value value) = 0
+readingNumber (reading.Refused number) = number
 
 abbrev pub valueOf : Reading → ℕ
 valueOf (reading.Value value) = value

@@ -3,6 +3,9 @@ pub mod Table
 pub mod Sheet
 pub mod Fields
 pub mod Answers
+pub mod Refusals
 pub mod Scaling
 pub mod Applying
 pub mod Showing
+pub mod Meaning
+pub mod Private

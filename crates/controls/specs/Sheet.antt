@@ -1,5 +1,5 @@
 -- Req 03: "six columns of 128 numbers, minimums of Req 01 included".
-use Prim.Native.Nat.{ℕ}
+use Prim.Native.Nat.{ℕ, _/_, _%_}
 use mathlib.Core.List.{List, [], _∷_}
 use lib.ListN.{getD}
 use Rattle.controls.specs.Formulas.{numberFor}
@@ -12,3 +12,7 @@ columns = 23 ∷ 51 ∷ 52 ∷ 54 ∷ 56 ∷ 58 ∷ []
 -- the number in a column for v: its controller's, least number included
 abbrev pub onSheet : ℕ → ℕ → ℕ
 onSheet column v = numberFor (rowOf (getD columns column 0)) v
+
+-- what stands at a place of the sheet: column after column
+abbrev pub sheetRule : ℕ → ℕ
+sheetRule place = onSheet (place / 128) (place % 128)

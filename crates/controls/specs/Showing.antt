@@ -1,15 +1,16 @@
 -- "Back, from the edit buffer."
 use Prim.Native.Nat.{ℕ, zero, suc, _+_, _*_, _/_, _%_}
 use mathlib.Core.Bool.{cond}
-use mathlib.Core.List.{List}
-use lib.Dec.{eqb, ltb}
-use lib.ListN.{length, getD}
+use mathlib.Core.List.{List, [], _∷_}
+use lib.Dec.{eqb}
+use Rattle.ground.specs.Tests.{Test, tested}
 use Rattle.controls.specs.declared.Row.{Row}
 use Rattle.controls.specs.declared.Reading.{Reading}
 use Rattle.controls.specs.declared.Reading.the-variants.{Value, Refused}
 use Rattle.controls.specs.Formulas.{m-upper, m-lower, numberFor, mOf}
-use Rattle.controls.specs.Table.{programSize, rowOf, selected}
-use Rattle.controls.specs.Fields.{readAt}
+use Rattle.controls.specs.Table.{rowOf}
+use Rattle.controls.specs.Fields.{numberIn}
+use Rattle.controls.specs.Refusals.{editTest, listedTest, selectedTest}
 
 -- "the smallest value within the controller's range whose formula gives the stored number"; Req 01: "Showing a value back still takes the smallest". The first of `count` values from v on
 abbrev pub smallest : Row → ℕ → ℕ → ℕ → Reading
@@ -27,12 +28,11 @@ shownOf r stored =
     (smallest r stored (r .highest + 1) 0))
 
 -- "Tests: 30, 17, 19, 40."
+abbrev pub backTests : Row → List ℕ → List (Test ℕ)
+backTests r edit = editTest edit ∷ listedTest r ∷ selectedTest r edit ∷ []
+
 abbrev pub backRow : Row → List ℕ → Reading
-backRow r edit =
-    cond (ltb (length edit) programSize) (Refused 30)
-    (cond (eqb (r .width) 0) (Refused 17)
-    (cond (selected (r .effect) (getD edit 46 0)) (shownOf r (readAt (r .width) (r .place) edit))
-    (Refused 19)))
+backRow r edit = tested (backTests r edit) Refused (shownOf r (numberIn r edit))
 
 unfoldable pub backOf : ℕ → List ℕ → Reading
 backOf controller edit = backRow (rowOf controller) edit

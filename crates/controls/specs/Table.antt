@@ -1,8 +1,7 @@
 -- The 49 controllers: "These 49 controllers are all."
-use Prim.Native.Nat.{ℕ, _+_, _≤_}
+use Prim.Native.Nat.{ℕ}
 use mathlib.Core.Bool.{Bool, true, cond}
 use mathlib.Core.List.{List, [], _∷_}
-use mathlib.Core.Path.{_≡_}
 use lib.Dec.{eqb}
 use Rattle.controls.specs.declared.Row.{Row}
 use Rattle.controls.specs.Formulas.{v/64, v/2, as-received, threshold, m-upper, m-lower, v/22, v×50, v×256/104, v×256/42, v×22+100, v×25}
@@ -43,10 +42,6 @@ rowAs place width formula least highest effect =
 
 abbrev pub row : ℕ → ℕ → ℕ → ℕ → ℕ → ℕ → ℕ → Entry Row
 row controller place width formula least highest effect = record { key = controller; value = rowAs place width formula least highest effect }
-
--- "72 bytes each": a program, and the edit buffer
-abbrev pub programSize : ℕ
-programSize = 72
 
 -- "a pair c>b is controller and byte"; Req 01: "51 is raised to at least 200, 58 to at least 150 and 54 to at least 1", and 0 raises nothing
 unfoldable pub rows : List (Entry Row)
@@ -102,16 +97,13 @@ rows =
     row 59 50 1 as-received 0 127 tremolo ∷
     []
 
--- the row of a controller; "a controller not in the table or above 127" has a row of no bytes
-unfoldable pub rowOf : ℕ → Row
-rowOf controller = find (rowAs 0 0 0 0 0 none) controller rows
+-- "a controller not in the table or above 127" has a row of no bytes
+abbrev pub unlisted : Row
+unlisted = rowAs 0 0 0 0 0 none
 
--- a row of the table: its field lies in a program, is three bytes wide at most, and takes data bytes
-pub record Sane (r : Row) : Type 0 where
-  pub inside : r .place + r .width ≤ programSize
-  pub narrow : r .width ≤ 3
-  pub low : r .highest ≤ 127
-  pub of-table : (controller : ℕ) × (r ≡ rowOf controller)
+-- the row of a controller
+unfoldable pub rowOf : ℕ → Row
+rowOf controller = find unlisted controller rows
 
 abbrev pub selects : ℕ → ℕ → Entry ℕ
 selects value effect = record { key = value; value = effect }

@@ -2,8 +2,9 @@
 ghost use mathlib.Core.Path.{_≡_};
 ghost use Prim.Native.Nat.{_≤_, _<_, _+_};
 ghost use lib.ListN.{length, getD};
-ghost use Rattle.controls.specs.Applying.{store};
-ghost use Rattle.controls.specs.Table.{programSize, Sane};
+ghost use Rattle.controls.specs.Applying.{storeRow};
+ghost use Rattle.programs.specs.Memory.{programSize};
+ghost use Rattle.controls.specs.Private.{Sane};
 ghost use Rattle.controls.specs.Fields.{readAt, putAt};
 use crate::Row;
 use crate::formulas;
@@ -58,7 +59,7 @@ pub(crate) fn store(row: Row, value: u32, edit: &mut [u8])
     requires { ⌜ 1 ≤ row .width ⌝ }
     requires { ⌜ value ≤ 127 ⌝ }
     requires { ⌜ programSize ≤ length (now edit) ⌝ }
-    ensures { λ _. ⌜ now (edit .exit) ≡ store row value (now (edit .entry)) ⌝ }
+    ensures { λ _. ⌜ now (edit .exit) ≡ storeRow row value (now (edit .entry)) ⌝ }
 {
     let place = row.place as usize;
     let stored = read(edit, place, row.width);

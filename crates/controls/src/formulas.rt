@@ -2,7 +2,7 @@
 ghost use mathlib.Core.Path.{_≡_};
 ghost use Prim.Native.Nat.{_≤_, _+_};
 ghost use Rattle.controls.specs.Formulas.{numberFor, mOf, nextFor};
-ghost use Rattle.controls.specs.Table.{Sane};
+ghost use Rattle.controls.specs.Private.{Sane};
 ghost use Rattle.controls.specs.Showing.{smallest, sevenBits, shownOf};
 use crate::Reading;
 use crate::Row;

@@ -4,15 +4,13 @@ mod formulas;
 mod sheet;
 mod table;
 
+use programs::PROGRAM;
 pub use table::row_of;
 ghost use mathlib.Core.Path.{_≡_};
-ghost use Rattle.controls.specs.Table.{Sane};
+ghost use Rattle.controls.specs.Private.{Sane};
 ghost use Rattle.controls.specs.Scaling.{scaleRow, scaleOf};
-ghost use Rattle.controls.specs.Applying.{left, applyRow, applyOf};
+ghost use Rattle.controls.specs.Applying.{changed, applyRow, applyOf};
 ghost use Rattle.controls.specs.Showing.{backRow, backOf};
-
-// The bytes of a program, and of the edit buffer.
-pub const PROGRAM: usize = 72;
 
 // A row of the table. A row of no bytes stands for a controller that is not in it.
 pub struct Row {
@@ -66,7 +64,7 @@ fn scale_row(row: Row, value: u32) -> Reading
 
 // The controller's number for a value into its bytes of the edit buffer.
 pub fn apply(controller: u32, value: u32, edit: &mut [u8]) -> Change
-    ensures { λ r. ⌜ left r (now (edit .exit)) ≡ applyOf controller value (now (edit .entry)) ⌝ }
+    ensures { λ r. ⌜ changed r (now (edit .exit)) ≡ applyOf controller value (now (edit .entry)) ⌝ }
 {
     let row = row_of(controller);
     apply_row(row, value, edit)
@@ -74,7 +72,7 @@ pub fn apply(controller: u32, value: u32, edit: &mut [u8]) -> Change
 
 fn apply_row(row: Row, value: u32, edit: &mut [u8]) -> Change
     requires { ⌜ Sane row ⌝ }
-    ensures { λ r. ⌜ left r (now (edit .exit)) ≡ applyRow row value (now (edit .entry)) ⌝ }
+    ensures { λ r. ⌜ changed r (now (edit .exit)) ≡ applyRow row value (now (edit .entry)) ⌝ }
 {
     if edit.len() < PROGRAM {
         return Change::Refused(30);

@@ -1,6 +1,7 @@
 // The edit buffer that a sweep begins with, and what is written to it and read off it.
 ghost use Prim.Native.Nat.{_+_, _*_, _≤_, _<_};
-use controls::PROGRAM;
+ghost use Rattle.programs.specs.Memory.{programSize};
+use programs::PROGRAM;
 
 pub(crate) type Edit = [u8; PROGRAM];
 
@@ -30,15 +31,15 @@ pub(crate) fn weighed(edit: &Edit) -> u32 {
 }
 
 fn weight(place: u32, byte: u8) -> u32
-    requires { ⌜ place < 72 ⌝ }
-    ensures { λ r. ⌜ r ≤ 72 * 255 ⌝ }
+    requires { ⌜ place < programSize ⌝ }
+    ensures { λ r. ⌜ r ≤ programSize * 255 ⌝ }
 {
     (place + 1) * byte as u32
 }
 
 // A number's bytes, lowest first, from a place on.
 pub(crate) fn put(edit: &mut Edit, place: usize, width: usize, number: u32)
-    requires { ⌜ place + width ≤ 72 ⌝ }
+    requires { ⌜ place + width ≤ programSize ⌝ }
 {
     let mut rest = number;
     for i in 0..width {

@@ -5,18 +5,12 @@ use borrow.Author.Needs.{needs}
 use Rattle.controls.proofs.apply.Statement.{statement}
 use Rattle.controls.proofs.apply.Tie as tie
 
-apply-row-requires : tie.Need-apply-row-requires
-apply-row-requires c κs = rw (c .before .row-of .ensures) (row-sane _)
-
-returns : tie.Need-returns
-unfolding applyOf
-returns c = rw (← c .before .before .before .before .row-of .ensures) (c .before .before .apply-row .ensures)
-
 pub apply-spec : {M : Type 1} → statement M
+unfolding applyOf
 apply-spec =
     tie.close
     (tie.spec
     (λ c κs. search needs)
-    apply-row-requires
+    (λ c κs. rw (c .before .row-of .ensures) (row-sane _))
     (λ c. search needs)
-    returns)
+    (λ c. rw (← c .before .before .before .before .row-of .ensures) (c .before .before .apply-row .ensures)))

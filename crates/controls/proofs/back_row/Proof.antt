@@ -4,12 +4,6 @@ use borrow.Author.Needs.{needs}
 use Rattle.controls.proofs.back_row.Statement.{statement}
 use Rattle.controls.proofs.back_row.Tie as tie
 
-returns-3 : tie.Need-returns-3
-returns-3 c = let k = c .before .before .before in search (tests, ← k .before .is-selected .ensures, k .if3 .taken, ← c .before .read .ensures, c .shown .ensures)
-
-returns-4 : tie.Need-returns-4
-returns-4 c = search (tests, ← c .before .is-selected .ensures, c .if3 .left)
-
 pub back-row-spec : {M : Type 1} → statement M
 back-row-spec =
     tie.close
@@ -21,5 +15,5 @@ back-row-spec =
     (λ c. search needs)
     (λ c κs. search needs)
     (λ c κs. search needs)
-    returns-3
-    returns-4)
+    (λ c. let k = c .before .before .before in search (tests, ← k .before .is-selected .ensures, k .if3 .taken, ← c .before .read .ensures, c .shown .ensures))
+    (λ c. search (tests, ← c .before .is-selected .ensures, c .if3 .left)))

@@ -4,9 +4,6 @@ use borrow.Author.Needs.{needs}
 use Rattle.controls.proofs.scale_row.Statement.{statement}
 use Rattle.controls.proofs.scale_row.Tie as tie
 
-returns-5 : tie.Need-returns-5
-returns-5 c = search (tests, ← c .number-for .ensures)
-
 pub scale-row-spec : {M : Type 1} → statement M
 scale-row-spec =
     tie.close
@@ -18,4 +15,4 @@ scale-row-spec =
     (λ c. search tests)
     (λ c. search needs)
     (λ c κs. search needs)
-    returns-5)
+    (λ c. search (tests, ← c .number-for .ensures)))

@@ -5,17 +5,11 @@ use borrow.Author.Needs.{needs}
 use Rattle.controls.proofs.show_back.Statement.{statement}
 use Rattle.controls.proofs.show_back.Tie as tie
 
-back-row-requires : tie.Need-back-row-requires
-back-row-requires c κs = rw (c .row-of .ensures) (row-sane _)
-
-returns : tie.Need-returns
-unfolding backOf
-returns c = rw (← c .before .row-of .ensures) (c .back-row .ensures)
-
 pub show-back-spec : {M : Type 1} → statement M
+unfolding backOf
 show-back-spec =
     tie.close
     (tie.spec
     (λ c κs. search needs)
-    back-row-requires
-    returns)
+    (λ c κs. rw (c .row-of .ensures) (row-sane _))
+    (λ c. rw (← c .before .row-of .ensures) (c .back-row .ensures)))

@@ -5,30 +5,21 @@ use borrow.Author.Needs.{needs}
 use Rattle.controls.proofs.fields.read.Statement.{statement}
 use Rattle.controls.proofs.fields.read.Tie as tie
 
-returns : tie.Need-returns
-returns c = rw (c .if1 .taken) (omega arith)
-
-returns-2 : tie.Need-returns-2
-returns-2 c = rw (c .if2 .taken) (omega arith)
-
-returns-3 : tie.Need-returns-3
-returns-3 c = let three : c .before .before .before .before .before .before .args .width ≡ 3 = omega arith in rw three (omega arith)
-
 pub read-spec : {M : Type 1} → statement M
 read-spec =
     tie.close
     (tie.spec
     (λ c κs. search needs)
-    returns
+    (λ c. rw (c .if1 .taken) (omega arith))
     (λ c. search needs)
     (λ c κs. search needs)
     (λ c. search needs)
     (λ c. search needs)
-    returns-2
+    (λ c. rw (c .if2 .taken) (omega arith))
     (λ c. search needs)
     (λ c κs. search needs)
     (λ c. search needs)
     (λ c. search needs)
     (λ c. search needs)
     (λ c. search needs)
-    returns-3)
+    (λ c. let three : c .before .before .before .before .before .before .args .width ≡ 3 = omega arith in rw three (omega arith)))

@@ -1,14 +1,11 @@
 -- The number that stands there, the next one, and where it goes.
-use Rattle.controls.specs.Applying.{store}
+use Rattle.controls.specs.Applying.{storeRow}
 use borrow.Author.Needs.{needs}
 use Rattle.controls.proofs.fields.store.Statement.{statement}
 use Rattle.controls.proofs.fields.store.Tie as tie
 
-returns : tie.Need-returns
-unfolding store
-returns c = rw (← c .before .before .before .before .before .read .ensures, ← c .before .before .before .next .ensures) (c .before .before .put .ensures)
-
 pub store-spec : {M : Type 1} → statement M
+unfolding storeRow
 store-spec =
     tie.close
     (tie.spec
@@ -18,4 +15,4 @@ store-spec =
     (λ c κs. search needs)
     (λ c κs. search needs)
     (λ c. search needs)
-    returns)
+    (λ c. rw (← c .before .before .before .before .before .read .ensures, ← c .before .before .before .next .ensures) (c .before .before .put .ensures)))

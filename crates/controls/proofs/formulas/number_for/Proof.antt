@@ -3,7 +3,7 @@ use native.Mathlib.Omega.{arith}
 use Rattle.ground.proofs.Tests.{tests}
 use Rattle.controls.specs.Formulas.{numberBy}
 use Rattle.controls.specs.Table.{rows, rowOf}
-use Rattle.controls.proofs.Columns.{by-formula, at-formula, at-controller}
+use Rattle.controls.proofs.Columns.{by-least, at-formula, at-controller}
 use borrow.Author.Needs.{needs}
 use Rattle.controls.proofs.formulas.number_for.Statement.{statement}
 use Rattle.controls.proofs.formulas.number_for.Tie as tie
@@ -29,4 +29,4 @@ number-for-spec =
     (λ c. at-controller _ _ _ (search needs) 56 (c .before .if9 .taken) (c .on-sheet5 .ensures))
     (λ c κs. search needs)
     (λ c. at-controller _ _ _ (search needs) 58 (c .before .if10 .taken) (c .on-sheet6 .ensures))
-    (λ c. search (tests, by-formula)))
+    (λ c. search (tests, by-least)))

@@ -6,21 +6,12 @@ use borrow.Author.Needs.{needs}
 use Rattle.controls.proofs.formulas.seven_bits.Statement.{statement}
 use Rattle.controls.proofs.formulas.seven_bits.Tie as tie
 
-mul-if1 : tie.Need-mul-if1
-unfolding mOf
-mul-if1 c = omega arith
-
-returns : tie.Need-returns
-returns c = search (tests, ← c .before .pre .0)
-
-returns-2 : tie.Need-returns-2
-returns-2 c = search (tests, ← c .before .pre .0)
-
 pub seven-bits-spec : {M : Type 1} → statement M
+unfolding mOf
 seven-bits-spec =
     tie.close
     (tie.spec
-    mul-if1
+    (λ c. omega arith)
     (λ c. search needs)
-    returns
-    returns-2)
+    (λ c. search (tests, ← c .before .pre .0))
+    (λ c. search (tests, ← c .before .pre .0)))

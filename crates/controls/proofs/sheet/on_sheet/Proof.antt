@@ -6,11 +6,8 @@ use borrow.Author.Needs.{needs}
 use Rattle.controls.proofs.sheet.on_sheet.Statement.{statement}
 use Rattle.controls.proofs.sheet.on_sheet.Tie as tie
 
-returns : tie.Need-returns
-unfolding rows rowOf numberBy numberFor
-returns c = in-column (c .args .column) (c .args .v) (c .pre .0) (c .pre .1)
-
 pub on-sheet-spec : {M : Type 1} → statement M
+unfolding rows rowOf numberBy numberFor
 on-sheet-spec =
     tie.close
     (tie.spec
@@ -18,4 +15,4 @@ on-sheet-spec =
     (λ c. search needs)
     (λ c. search needs)
     (λ c. search needs)
-    returns)
+    (λ c. in-column (c .args .column) (c .args .v) (c .pre .0) (c .pre .1)))

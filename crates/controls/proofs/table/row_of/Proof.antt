@@ -2,8 +2,8 @@
 use mathlib.Core.Path.{_∙_, sym}
 use Rattle.ground.proofs.Tests.{tests}
 use borrow.Author.Needs.{needs}
-use Rattle.controls.specs.Table.{rows, rowOf}
-use Rattle.controls.proofs.Rows.{unlisted, not-found}
+use Rattle.controls.specs.Table.{unlisted, rows, rowOf}
+use Rattle.controls.proofs.Rows.{not-found}
 use Rattle.controls.proofs.table.row_of.Statement.{statement}
 use Rattle.controls.proofs.table.row_of.Tie as tie
 

@@ -11,9 +11,6 @@ Inv-loop controller place width edit₀ tally₀ number₀ number-end edit tally
 abbrev μ-loop : tie.MeasureT-loop
 μ-loop controller place width edit₀ tally₀ number₀ number-end edit tally number = number-end - number
 
-put-requires : tie.Need-put-requires Inv-loop μ-loop
-put-requires c κs = rw (c .before .before .before .before .before .before .before .before .row-of .ensures) (row-sane _ .inside)
-
 pub shown-numbers-spec : {M : Type 1} → statement M
 shown-numbers-spec =
     tie.close
@@ -27,7 +24,7 @@ shown-numbers-spec =
     (λ c κs. search needs)
     (λ c κs. search needs)
     (λ c. search needs)
-    put-requires
+    (λ c κs. rw (c .before .before .before .before .before .before .before .before .row-of .ensures) (row-sane _ .inside))
     (λ c κs. search needs)
     (λ c κs. search needs)
     (λ c. search needs)
