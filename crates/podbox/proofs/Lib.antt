@@ -1,13 +1,4 @@
 pub mod Frames
 pub mod Orders
 pub mod Taking
-pub mod WholeMessages
-pub mod Exactly
-pub mod Refusals
-pub mod Reasons
-pub mod Carried
-pub mod EveryByte
-pub mod Byte48
-pub mod Sockets
-pub mod Fed
 pub mod OneResult

@@ -1,5 +1,5 @@
--- A step of a sound receiver stays within the receive buffer.
-use Prim.Native.Nat.{ℕ, _≤_, _<_}
+-- A step of a sound receiver stays within the receive buffer, and a socket is its sender's number.
+use Prim.Native.Nat.{ℕ, zero, suc, _≤_, _<_}
 use mathlib.Core.Bool.{true}
 use mathlib.Core.Path.{_≡_, refl}
 use native.Mathlib.Omega.{arith}
@@ -9,7 +9,9 @@ use Rattle.framing.specs.declared.Event.the-variants.{Nothing, Collect, Cut, Cu
 use Rattle.framing.specs.Receiver.{soundOf}
 use Rattle.framing.specs.Bytes.{stepOf}
 use Rattle.framing.proofs.Keeps.{collects-below, finishes-within}
-use Rattle.podbox.specs.Take.{limit, Within}
+use Rattle.sockets.specs.Promise.{socketNumber, socketOf}
+use Rattle.podbox.specs.Box.{limit}
+use Rattle.podbox.specs.Private.{Within}
 
 at-event : (event : Event) → ((place : ℕ) → event ≡ Collect place → place < limit) → ((count : ℕ) → event ≡ SysEx count → count ≤ limit) → Within event
 at-event Nothing below within = tt
@@ -23,3 +25,8 @@ at-event (Channel status first second) below within = tt
 pub step-within : (r : Receiver) (byte : ℕ) → soundOf limit r ≡ true → Within (stepOf limit r byte .event)
 step-within r byte sound =
     at-event (stepOf limit r byte .event) (λ place. collects-below limit (omega arith) r sound byte place) (λ count e. finishes-within limit (omega arith) r sound byte count e .1)
+
+pub sender : (player : ℕ) → player ≤ 1 → socketNumber (socketOf player) ≡ player
+sender zero h = refl
+sender (suc zero) h = refl
+sender (suc (suc n)) h = absurd (omega arith)

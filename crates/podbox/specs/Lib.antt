@@ -1,5 +1,5 @@
 pub mod Settings
 pub mod Messages
 pub mod Whole
-pub mod Take
 pub mod Box
+pub mod Private

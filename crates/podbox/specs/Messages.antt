@@ -1,18 +1,21 @@
--- A finished message, and what carrying it out does.
+-- A finished message, and what carrying it out does. It goes with its sender, a player: the number of the socket that finished it.
 use Prim.Native.Nat.{ℕ, _/_, _%_}
 use mathlib.Core.Bool.{Bool, true, cond}
-use mathlib.Core.List.{List, []}
+use mathlib.Core.List.{List, [], _∷_}
 use lib.Dec.{eqb}
+use Rattle.ground.specs.Tests.{Test, test, tested}
+use Rattle.ground.specs.Calls.{outcome}
+use Rattle.programs.specs.Memory.{programSize}
+use Rattle.programs.specs.Held.{Held, Edit, bytesIn, storeIn}
 use Rattle.controls.specs.declared.Change.{Change}
 use Rattle.controls.specs.declared.Change.the-variants as change
 use Rattle.controls.specs.Applying.{applyOf}
 use Rattle.sockets.specs.Framer.{Message, SysEx, TooLong, Channel}
 use Rattle.sysex.specs.declared.Settings.{Settings}
 use Rattle.sysex.specs.declared.Answer.{Answer}
-use Rattle.sysex.specs.declared.Answer.the-variants.{Applied, Refused}
-use Rattle.sysex.specs.Memory.{editPlace, partOf, putPart}
-use Rattle.sysex.specs.Carrying.{Outcome, outcome, refused, bodyDoes}
-use Rattle.podbox.specs.Settings.{size}
+use Rattle.sysex.specs.declared.Answer.the-variants.{Applied}
+use Rattle.sysex.specs.Numbers.{refused}
+use Rattle.sysex.specs.Carrying.{Outcome, refusing, bodyDoes}
 
 -- 20 "channel message on another channel, not omni"
 unfoldable pub isHeard : Settings → ℕ → Bool
@@ -22,24 +25,24 @@ isHeard settings status = cond (eqb (status % 16) (settings .channel)) true (eqb
 unfoldable pub isController : ℕ → Bool
 isController status = eqb (status / 16) 0xB
 
-abbrev pub answerOf : Change → Answer
-answerOf change.Applied = Applied
-answerOf (change.Refused number) = Refused number
+-- "a finished channel message 20, 21, 17, 18, 19": the last three are the controller's
+abbrev pub channelTests : Settings → ℕ → List (Test ℕ)
+channelTests settings status = test 20 (isHeard settings status) ∷ test 21 (isController status) ∷ []
 
--- a controller acts on "its bytes of the edit buffer"
-abbrev pub controllerDoes : ℕ → ℕ → List ℕ → Outcome
-controllerDoes controller value memory =
-    let done = applyOf controller value (partOf (editPlace size) size memory) in
-    outcome (answerOf (done .answer)) (putPart (editPlace size) size (done .edit) memory) []
+abbrev pub changeAnswer : Change → Answer
+changeAnswer change.Applied = Applied
+changeAnswer (change.Refused number) = refused number
 
--- "a finished channel message 20, 21, 17, 18, 19"
-abbrev pub channelDoes : Settings → ℕ → ℕ → ℕ → List ℕ → Outcome
-channelDoes settings status first second memory =
-    cond (isHeard settings status)
-    (cond (isController status) (controllerDoes first second memory) (refused 21 memory))
-    (refused 20 memory)
+-- a controller acts on "its bytes of the edit buffer", the sender's
+abbrev pub controllerDoes : ℕ → ℕ → ℕ → Held → Outcome
+controllerDoes player controller value held =
+    let done = applyOf controller value (bytesIn programSize player Edit held) in
+    outcome (changeAnswer (done .answer)) (storeIn programSize player Edit (done .edit) held) []
 
-unfoldable pub carry : Settings → List ℕ → Message → Outcome
-carry settings memory (SysEx body) = bodyDoes size settings body memory
-carry settings memory TooLong = refused 10 memory
-carry settings memory (Channel status first second) = channelDoes settings status first second memory
+unfoldable pub channelDoes : Settings → ℕ → ℕ → ℕ → ℕ → Held → Outcome
+channelDoes settings player status first second held = tested (channelTests settings status) (refusing held) (controllerDoes player first second held)
+
+unfoldable pub messageDoes : Settings → ℕ → Held → Message → Outcome
+messageDoes settings player held (SysEx body) = bodyDoes programSize settings player body held
+messageDoes settings player held TooLong = refusing held 10
+messageDoes settings player held (Channel status first second) = channelDoes settings player status first second held

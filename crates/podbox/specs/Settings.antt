@@ -1,15 +1,10 @@
--- The sizes of this box, and its settings.
-use Prim.Native.Nat.{ℕ}
+-- The settings of a box, and a fresh one.
 use mathlib.Core.Bool.{Bool, _&&_}
-use mathlib.Core.List.{List}
 use lib.Dec.{leb}
 use lib.ListN.{replicate}
+use Rattle.programs.specs.Memory.{programSize, memorySize}
+use Rattle.programs.specs.Held.{Held, heldOf}
 use Rattle.sysex.specs.declared.Settings.{Settings}
-use Rattle.sysex.specs.Memory.{memorySize}
-
--- "72 bytes each": every other length derives from the size
-abbrev pub size : ℕ
-size = 72
 
 -- "channel 0 to 15, omni 1 or 0 (yes or no), four revision bytes of at most 0x7F"
 unfoldable pub isValid : Settings → Bool
@@ -21,5 +16,5 @@ isValid s =
 unfoldable pub freshSettings : Settings
 freshSettings = record { channel = 0; omni = 0; revision0 = 0x30; revision1 = 0x31; revision2 = 0x30; revision3 = 0x30 }
 
-unfoldable pub freshMemory : List ℕ
-freshMemory = replicate (memorySize size) 0
+unfoldable pub freshHeld : Held
+freshHeld = heldOf (replicate (memorySize programSize) 0)

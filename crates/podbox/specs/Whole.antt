@@ -1,20 +1,21 @@
--- "A whole message handed over at once has no socket and no receiver".
+-- "A whole message handed over at once": its checks, what it asks for, and why.
 use Prim.Native.Nat.{ℕ, _-_}
-use mathlib.Core.Bool.{Bool, cond, _&&_}
+use mathlib.Core.Bool.{Bool, _&&_}
 use mathlib.Core.List.{List, _∷_}
-use lib.Dec.{eqb, leb, ltb}
+use lib.Dec.{eqb, leb}
 use lib.ListN.{length, getD, take, drop}
 use Rattle.ground.specs.Lists.{allAtMost}
+use Rattle.ground.specs.Tests.{Test, test}
+use Rattle.programs.specs.Memory.{programSize}
+use Rattle.programs.specs.Held.{Held}
 use Rattle.sysex.specs.declared.Settings.{Settings}
 use Rattle.sysex.specs.declared.Check.{Check}
 use Rattle.sysex.specs.declared.Check.the-variants.{TooLong, Ours}
 use Rattle.sysex.specs.declared.Order.{Order}
-use Rattle.sysex.specs.declared.Answer.the-variants.{Refused}
-use Rattle.sysex.specs.Memory.{memorySize}
 use Rattle.sysex.specs.Forms.{longest}
-use Rattle.sysex.specs.Judging.{Test, test, judgedBy, hasForm, furtherTests, bodyOrder}
-use Rattle.sysex.specs.Carrying.{Outcome, orderDoes, Left, left, leaves}
-use Rattle.podbox.specs.Settings.{size, isValid, freshSettings}
+use Rattle.sysex.specs.Judging.{judgedBy, hasForm, furtherTests, bodyOrder}
+use Rattle.sysex.specs.Carrying.{Outcome, orderDoes}
+use Rattle.podbox.specs.Settings.{freshSettings}
 
 -- "11 if it does not begin with F0, end with F7 as another byte, or has a byte above 0x7F between"
 unfoldable pub isFramed : List ℕ → Bool
@@ -30,25 +31,17 @@ bodyOf message = take (length message - 1) message
 -- and for the identity form or the header.
 abbrev pub messageTests : Settings → List ℕ → List (Test Check)
 messageTests settings message =
-    test (TooLong (longest size)) (leb (length message) (longest size))
+    test (TooLong (longest programSize)) (leb (length message) (longest programSize))
     ∷ test Ours (isFramed message && hasForm (bodyOf message))
-    ∷ furtherTests size settings (bodyOf message)
+    ∷ furtherTests programSize settings (bodyOf message)
 
 -- what a message asks for, or the first check that fails; and what it does
 unfoldable pub messageOrder : Settings → List ℕ → Order
 messageOrder settings message = judgedBy (messageTests settings message) (bodyOrder (bodyOf message))
 
-abbrev pub messageDoes : Settings → List ℕ → List ℕ → Outcome
-messageDoes settings message memory = orderDoes size settings (messageOrder settings message) (bodyOf message) memory
+abbrev pub handedDoes : Settings → ℕ → List ℕ → Held → Outcome
+handedDoes settings player message held = orderDoes programSize settings player (messageOrder settings message) (bodyOf message) held
 
 -- "Tell the customer why": what becomes of a message that a fresh box is handed
 abbrev pub reasonOf : List ℕ → Order
 reasonOf message = messageOrder freshSettings message
-
--- "30 for the memory or the reply buffer, 32 for a setting"
-unfoldable pub wholeOf : Settings → List ℕ → List ℕ → List ℕ → Left
-wholeOf settings message memory reply =
-    cond (ltb (length memory) (memorySize size)) (left (Refused 30) memory reply)
-    (cond (ltb (length reply) (longest size)) (left (Refused 30) memory reply)
-    (cond (isValid settings) (leaves (messageDoes settings message memory) reply)
-    (left (Refused 32) memory reply)))

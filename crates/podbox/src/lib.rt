@@ -8,7 +8,6 @@ mod why;
 use framing::Receiver;
 pub use panel::whole_message;
 pub use settings::Buffer;
-pub use settings::EDIT;
 pub use settings::FRESH_SETTINGS;
 pub use settings::LONGEST;
 pub use settings::MEMORY;

@@ -1,12 +1,16 @@
 // A message that the panel hands over whole.
 ghost use mathlib.Core.Path.{_≡_};
-ghost use Prim.Native.Nat.{_≤_};
-ghost use lib.ListN.{length};
-ghost use Rattle.sysex.specs.Carrying.{left, leaves};
-ghost use Rattle.podbox.specs.Whole.{isFramed, messageDoes, wholeOf};
+ghost use Rattle.ground.specs.Calls.{left, leaves};
+ghost use Rattle.programs.specs.Held.{heldOf};
+ghost use Rattle.podbox.specs.Whole.{isFramed, handedDoes};
+ghost use Rattle.podbox.specs.Box.{wholeOf};
+ghost use Rattle.podbox.specs.Private.{HoldsMemory, HasRoom};
 use crate::settings;
 use sysex::Answer;
 use sysex::Settings;
+
+// Whose messages the panel's are.
+const PANEL: u32 = 0;
 
 pub fn whole_message(
     message: &[u8],
@@ -14,33 +18,39 @@ pub fn whole_message(
     memory: &mut [u8],
     reply: &mut [u8],
 ) -> Answer
-    ensures { λ r. ⌜ left r (now (memory .exit)) (now (reply .exit)) ≡ wholeOf settings (now (message .entry)) (now (memory .entry)) (now (reply .entry)) ⌝ }
+    ensures { λ r. ⌜ left r (heldOf (now (memory .exit))) (now (reply .exit)) ≡ wholeOf settings (now (message .entry)) (heldOf (now (memory .entry))) (now (reply .entry)) ⌝ }
 {
     if memory.len() < settings::MEMORY {
-        return Answer::Refused(30);
+        return sysex::refused(30);
     }
     if reply.len() < settings::LONGEST {
-        return Answer::Refused(30);
+        return sysex::refused(30);
     }
     if settings::are_valid(settings) {
-        return framed(message, settings, memory, reply);
+        return framed(message, settings, PANEL, memory, reply);
     }
-    Answer::Refused(32)
+    sysex::refused(32)
 }
 
 // 10 and 11, then what its body asks for.
-fn framed(message: &[u8], settings: Settings, memory: &mut [u8], reply: &mut [u8]) -> Answer
-    requires { ⌜ (2664 ≤ length (now memory)) × (5193 ≤ length (now reply)) ⌝ }
-    ensures { λ r. ⌜ left r (now (memory .exit)) (now (reply .exit)) ≡ leaves (messageDoes settings (now (message .entry)) (now (memory .entry))) (now (reply .entry)) ⌝ }
+fn framed(
+    message: &[u8],
+    settings: Settings,
+    player: u32,
+    memory: &mut [u8],
+    reply: &mut [u8],
+) -> Answer
+    requires { ⌜ HoldsMemory (now memory) × HasRoom (now reply) ⌝ }
+    ensures { λ r. ⌜ left r (heldOf (now (memory .exit))) (now (reply .exit)) ≡ leaves (handedDoes settings player (now (message .entry)) (heldOf (now (memory .entry)))) (now (reply .entry)) ⌝ }
 {
     if settings::LONGEST < message.len() {
-        return Answer::Refused(10);
+        return sysex::refused(10);
     }
     if is_framed(message) {
         let end = message.len() - 1;
-        return sysex::carry_out(&message[..end], settings, memory, reply);
+        return sysex::carry_out(&message[..end], settings, player, memory, reply);
     }
-    Answer::Refused(11)
+    sysex::refused(11)
 }
 
 // Whether it begins with F0, ends with F7 as another byte, and has none above 0x7F between.

@@ -1,16 +1,15 @@
 // The lengths of this box, the settings of a fresh one, and whether settings are in range.
 ghost use mathlib.Core.Path.{_≡_};
 ghost use Rattle.podbox.specs.Settings.{isValid};
+use programs::PROGRAM;
+use programs::PROGRAMS;
 use sysex::Settings;
 
 // 36 programs and the edit buffer.
-pub const MEMORY: usize = (sysex::PROGRAMS + 1) * sysex::PROGRAM;
-
-// Where the edit buffer begins.
-pub const EDIT: usize = sysex::PROGRAMS * sysex::PROGRAM;
+pub const MEMORY: usize = (PROGRAMS + 1) * PROGRAM;
 
 // The longest message, F0 and F7 with it: an all programs dump.
-pub const LONGEST: usize = 2 * sysex::PROGRAMS * sysex::PROGRAM + 9;
+pub const LONGEST: usize = 2 * PROGRAMS * PROGRAM + 9;
 
 // The shortest that a call may be lent: memory, and a receive or a reply buffer.
 pub type Memory = [u8; MEMORY];

@@ -7,8 +7,8 @@ use Rattle.programs.specs.Memory.{programPlace, editPlace, allSize, part
 pub record Held : Type 0 where
   pub memory : List ℕ
 
-abbrev pub holds : List ℕ → Held
-holds memory = record { memory = memory }
+abbrev pub heldOf : List ℕ → Held
+heldOf memory = record { memory = memory }
 
 -- what a dump or a request names: one program, the edit buffer, all programs
 pub data Target : Type 0 where
@@ -32,4 +32,4 @@ bytesIn size player t held = partOf (placeFor size player t) (countFor size t) (
 
 -- what a store does: what is named becomes these bytes, and nothing else changes
 abbrev pub storeIn : ℕ → ℕ → Target → List ℕ → Held → Held
-storeIn size player t bytes held = holds (putPart (placeFor size player t) (countFor size t) bytes (held .memory))
+storeIn size player t bytes held = heldOf (putPart (placeFor size player t) (countFor size t) bytes (held .memory))

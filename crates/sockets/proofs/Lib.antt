@@ -8,3 +8,4 @@ pub mod Fed
 pub mod Live
 pub mod Calm
 pub mod Cases
+pub mod OneResult

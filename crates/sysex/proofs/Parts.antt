@@ -11,7 +11,7 @@ use Rattle.ground.specs.Calls.{left, leaves}
 use Rattle.ground.proofs.Lists.{to-end}
 use Rattle.halves.specs.HalfBytes.{split, join}
 use Rattle.programs.specs.Memory.{memorySize, partOf, putPart}
-use Rattle.programs.specs.Held.{Held, holds}
+use Rattle.programs.specs.Held.{Held, heldOf}
 use Rattle.sysex.specs.declared.Settings.{Settings}
 use Rattle.sysex.specs.declared.Answer.the-variants.{Sent}
 use Rattle.sysex.specs.Forms.{longest, dumpStart, ended}
@@ -20,11 +20,11 @@ use Rattle.sysex.specs.Private.{partSent}
 
 pub answered-by : (type place count n : ℕ) (pp memory reply part x : List ℕ) → (let dump : List ℕ → List ℕ = λ bytes. ended (dumpStart type pp ++ split bytes) in
     n ≡ length (dump part) → x ≡ written (dump part) reply
-    → part ≡ partOf place count memory → left (Sent n) (holds memory) x ≡ partSent type pp place count memory reply)
+    → part ≡ partOf place count memory → left (Sent n) (heldOf memory) x ≡ partSent type pp place count memory reply)
 answered-by type place count n pp memory reply part x e f g =
     let long = e ∙ ap (λ (bytes : List ℕ). length (ended (dumpStart type pp ++ split bytes))) g in
     let whole = f ∙ ap (λ (bytes : List ℕ). written (ended (dumpStart type pp ++ split bytes)) reply) g in
-    λ i. left (Sent (long i)) (holds memory) (whole i)
+    λ i. left (Sent (long i)) (heldOf memory) (whole i)
 
 pub stored-by : (place count from first : ℕ) (body memory x : List ℕ) → x ≡ join (take (length body - from) (drop from body)) → from ≡ first
     → putPart place (place + count - place) x memory ≡ putPart place count (join (drop first body)) memory

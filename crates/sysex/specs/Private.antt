@@ -8,7 +8,7 @@ use lib.ListN.{length, drop}
 use Rattle.ground.specs.Calls.{leaves}
 use Rattle.halves.specs.HalfBytes.{split, allHalves}
 use Rattle.programs.specs.Memory.{lastProgram, allSize, partOf}
-use Rattle.programs.specs.Held.{holds}
+use Rattle.programs.specs.Held.{heldOf}
 use Rattle.sysex.specs.declared.Order.{Order}
 use Rattle.sysex.specs.declared.Order.the-variants as order
 use Rattle.sysex.specs.Forms.{program, edit, all, dataPlace, dumpStart, ended}
@@ -31,4 +31,4 @@ Fits size (order.Refused check) body = Unit {0}
 
 -- the dump of a part of memory, sent
 abbrev pub partSent : ℕ → List ℕ → ℕ → ℕ → List ℕ → List ℕ → Left
-partSent type pp place count memory reply = leaves (sending (ended (dumpStart type pp ++ split (partOf place count memory))) (holds memory)) reply
+partSent type pp place count memory reply = leaves (sending (ended (dumpStart type pp ++ split (partOf place count memory))) (heldOf memory)) reply

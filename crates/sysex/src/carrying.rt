@@ -5,7 +5,7 @@ ghost use lib.ListN.{length, drop};
 ghost use Rattle.ground.specs.Calls.{left, leaves};
 ghost use Rattle.halves.specs.HalfBytes.{join};
 ghost use Rattle.programs.specs.Memory.{memorySize, putPart};
-ghost use Rattle.programs.specs.Held.{holds};
+ghost use Rattle.programs.specs.Held.{heldOf};
 ghost use Rattle.sysex.specs.Forms.{dataPlace, longest};
 ghost use Rattle.sysex.specs.Carrying.{orderDoes, carryOf};
 ghost use Rattle.sysex.specs.Private.{HasData, Fits, partSent};
@@ -29,7 +29,7 @@ pub(crate) fn carried(
     reply: &mut [u8],
 ) -> Answer
     requires { ⌜ (1 ≤ size) × (size ≤ 255) ⌝ }
-    ensures { λ r. ⌜ left r (holds (now (memory .exit))) (now (reply .exit)) ≡ carryOf size settings player (now (body .entry)) (holds (now (memory .entry))) (now (reply .entry)) ⌝ }
+    ensures { λ r. ⌜ left r (heldOf (now (memory .exit))) (now (reply .exit)) ≡ carryOf size settings player (now (body .entry)) (heldOf (now (memory .entry))) (now (reply .entry)) ⌝ }
 {
     if memory.len() < PARTS * size {
         return numbers::refused(30);
@@ -53,7 +53,7 @@ fn act(
     requires { ⌜ (1 ≤ size) × (size ≤ 255) ⌝ }
     requires { ⌜ (memorySize size ≤ length (now memory)) × (longest size ≤ length (now reply)) ⌝ }
     requires { ⌜ Fits size order (now body) ⌝ }
-    ensures { λ r. ⌜ left r (holds (now (memory .exit))) (now (reply .exit)) ≡ leaves (orderDoes size settings player order (now (body .entry)) (holds (now (memory .entry)))) (now (reply .entry)) ⌝ }
+    ensures { λ r. ⌜ left r (heldOf (now (memory .exit))) (now (reply .exit)) ≡ leaves (orderDoes size settings player order (now (body .entry)) (heldOf (now (memory .entry)))) (now (reply .entry)) ⌝ }
 {
     let edit = programs::edit_place(size as u8, player);
     match order {
@@ -92,7 +92,7 @@ fn answer(
     requires { ⌜ (length (now pp) ≤ 1) × (count ≤ 36 * 255) ⌝ }
     requires { ⌜ place + count ≤ length (now memory) ⌝ }
     requires { ⌜ 2 * count + (9 + length (now pp)) ≤ length (now reply) ⌝ }
-    ensures { λ r. ⌜ left r (holds (now (memory .entry))) (now (reply .exit)) ≡ partSent typed (now (pp .entry)) place count (now (memory .entry)) (now (reply .entry)) ⌝ }
+    ensures { λ r. ⌜ left r (heldOf (now (memory .entry))) (now (reply .exit)) ≡ partSent typed (now (pp .entry)) place count (now (memory .entry)) (now (reply .entry)) ⌝ }
 {
     let end = place + count;
     let length = answering::send(typed, pp, &memory[place..end], reply);

@@ -9,7 +9,7 @@ mod numbers;
 ghost use mathlib.Core.Path.{_≡_};
 ghost use Rattle.ground.specs.Calls.{left};
 ghost use Rattle.programs.specs.Memory.{programSize};
-ghost use Rattle.programs.specs.Held.{holds};
+ghost use Rattle.programs.specs.Held.{heldOf};
 ghost use Rattle.sysex.specs.Judging.{judgeOf};
 ghost use Rattle.sysex.specs.Carrying.{carryOf};
 pub use numbers::answer_length;
@@ -87,7 +87,7 @@ pub fn carry_out(
     memory: &mut [u8],
     reply: &mut [u8],
 ) -> Answer
-    ensures { λ r. ⌜ left r (holds (now (memory .exit))) (now (reply .exit)) ≡ carryOf programSize settings player (now (body .entry)) (holds (now (memory .entry))) (now (reply .entry)) ⌝ }
+    ensures { λ r. ⌜ left r (heldOf (now (memory .exit))) (now (reply .exit)) ≡ carryOf programSize settings player (now (body .entry)) (heldOf (now (memory .entry))) (now (reply .entry)) ⌝ }
 {
     carrying::carried(body, settings, player, PROGRAM, memory, reply)
 }

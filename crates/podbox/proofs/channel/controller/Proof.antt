@@ -1,22 +1,38 @@
 -- The edit buffer that was lent comes back in its place.
 use denote.Ref.{now}
-use mathlib.Core.List.{[]}
-use mathlib.Core.Path.{ap}
-use Rattle.controls.specs.Applying.{Left}
-use Rattle.sysex.specs.Memory.{putPart}
-use Rattle.sysex.specs.Carrying.{outcome}
-use Rattle.podbox.specs.Messages.{answerOf}
+use Prim.Native.Nat.{ℕ, _+_, _-_}
+use mathlib.Core.List.{List, []}
+use mathlib.Core.Path.{ap, _∙_}
+use lib.ListN.{take, drop}
+use Rattle.ground.specs.Calls.{outcome}
+use Rattle.programs.specs.Memory.{putPart}
+use Rattle.programs.specs.Held.{heldOf}
+use Rattle.controls.specs.Applying.{Changed, applyOf}
+use Rattle.sysex.specs.Carrying.{Outcome}
+use Rattle.podbox.specs.Messages.{changeAnswer}
 use borrow.Author.Needs.{needs}
 use Rattle.podbox.proofs.channel.controller.Statement.{statement}
 use Rattle.podbox.proofs.channel.controller.Tie as tie
 
+-- the edit buffer from a place on, changed
+abbrev put : List ℕ → ℕ → Changed → Outcome
+put memory place done = outcome (changeAnswer (done .answer)) (heldOf (putPart place (place + 72 - place) (done .edit) memory)) []
+
 returns : tie.Need-returns
-returns c = rw (c .answer-of .ensures) (ap (λ (l : Left). outcome (answerOf (l .answer)) (putPart 2592 72 (l .edit) (now (c .before .before .before .before .before .before .args .memory))) []) (c .before .before .before .apply .ensures))
+returns c =
+    let a = c .before .before .before .before .before .before .before .args in
+    let e = c .before .before .before .before .before .edit-place in
+    rw (c .change-answer .ensures)
+    (ap (put (now (a .memory)) (e .result)) (c .before .before .before .apply .ensures)
+    ∙ ap (λ (place : ℕ). put (now (a .memory)) place (applyOf (a .number) (a .value) (take (place + 72 - place) (drop place (now (a .memory)))))) (e .ensures))
 
 pub controller-spec : {M : Type 1} → statement M
 controller-spec =
     tie.close
     (tie.spec
+    (λ c. search needs)
+    (λ c κs. search needs)
+    (λ c. search needs)
     (λ c. search needs)
     (λ c. search needs)
     (λ c. search needs)

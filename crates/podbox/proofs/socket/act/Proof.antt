@@ -3,53 +3,64 @@ use denote.Ref.{now}
 use mathlib.Core.Path.{ap, _∙_}
 use native.Mathlib.Omega.{arith}
 use lib.ListN.{length-take}
+use Rattle.ground.specs.Lists.{written}
 use Rattle.sysex.specs.Carrying.{Left, Outcome}
 use Rattle.sysex.proofs.Parts.{carry-long}
-use Rattle.podbox.specs.Messages.{carry}
-use Rattle.podbox.specs.Take.{took, carried, stepDoes}
+use Rattle.sockets.specs.Box.{took}
+use Rattle.sockets.specs.Promise.{stepDoes}
+use Rattle.podbox.specs.Messages.{messageDoes}
+use Rattle.podbox.proofs.Taking.{sender}
 use borrow.Author.Needs.{needs}
 use Rattle.podbox.proofs.socket.act.Statement.{statement}
 use Rattle.podbox.proofs.socket.act.Tie as tie
 
 slice-write-receive : tie.Need-slice-write-receive
-unfolding stepDoes carry
-slice-write-receive c = let w = rw (c .before .event .given .1) at (c .before .before .before .before .before .before .before .pre .1) in omega arith
+unfolding stepDoes messageDoes
+slice-write-receive c = let w = rw (c .before .event .given .1) at (c .before .before .before .before .before .before .before .pre .1 .1) in omega arith
 
 slice-reshare-prefix-carry-out : tie.Need-slice-reshare-prefix-carry-out
-unfolding stepDoes carry
-slice-reshare-prefix-carry-out c = let w = rw (c .before .event2 .given .1) at (c .before .before .before .before .before .before .before .pre .1) in omega arith
+unfolding stepDoes messageDoes
+slice-reshare-prefix-carry-out c = let w = rw (c .before .event2 .given .1) at (c .before .before .before .before .before .before .before .pre .1 .1) in omega arith
 
 slice-aggregate-carry-out : tie.Need-slice-aggregate-carry-out
-unfolding stepDoes carry
-slice-aggregate-carry-out c = let w = rw (c .before .before .event2 .given .1) at (c .before .before .before .before .before .before .before .before .pre .1) in simp length-take (omega arith)
+unfolding stepDoes messageDoes
+slice-aggregate-carry-out c = let w = rw (c .before .before .event2 .given .1) at (c .before .before .before .before .before .before .before .before .pre .1 .1) in simp length-take (omega arith)
 
 returns : tie.Need-returns
-unfolding stepDoes carry
+unfolding stepDoes messageDoes
 returns c = rw (c .enum-told .given .1)
 
 returns-2 : tie.Need-returns-2
-unfolding stepDoes carry
+unfolding stepDoes messageDoes
 returns-2 c = rw (c .before .event .given .1)
 
 returns-3 : tie.Need-returns-3
-unfolding stepDoes carry
+unfolding stepDoes messageDoes
 returns-3 c = rw (c .enum-told2 .given .1)
 
 returns-4 : tie.Need-returns-4
-unfolding stepDoes carry
+unfolding stepDoes messageDoes
 returns-4 c = rw (c .enum-told3 .given .1)
 
 returns-5 : tie.Need-returns-5
-unfolding stepDoes carry
+unfolding stepDoes messageDoes
 returns-5 c = rw (c .before .enum-told4 .given .1, c .refused .ensures .0, c .refused .ensures .1)
 
 returns-6 : tie.Need-returns-6
-unfolding stepDoes carry
-returns-6 c = let a = c .before .before .before .before .before .before .before .before .before .before .before .before .before .before .before .args in rw (c .before .before .before .before .before .before .before .before .before .event2 .given .1) (ap (λ (l : Left). took (a .stepped .receiver) (l .answer) (l .memory) (now (a .receive)) (l .reply)) (c .before .before .before .before .carry-out .ensures ∙ carry-long _ _ _ _ _ (omega arith) (omega arith)))
+unfolding stepDoes messageDoes
+returns-6 c =
+    let s = c .before .before .before .before .before .before .before .before .before .before .before .before .before .before .before in
+    let a = s .args in
+    rw (c .before .before .before .before .before .before .before .before .before .event2 .given .1, sender (a .player) (s .pre .1 .0))
+    (ap (λ (l : Left). took (a .stepped .receiver) (l .answer) (l .held) (now (a .receive)) (l .reply)) (c .before .before .before .before .carry-out .ensures ∙ carry-long _ _ _ _ _ _ (omega arith) (omega arith)))
 
 returns-7 : tie.Need-returns-7
-unfolding stepDoes carry
-returns-7 c = let r = c .before .before .before .before .before .before .before .before .before .before .before .args .stepped .receiver in rw (c .before .before .before .before .before .event3 .given .1) (ap (λ (o : Outcome). carried r o (now (c .before .before .before .before .before .before .before .before .before .before .before .args .receive)) (now (c .before .before .before .before .before .before .before .before .before .before .before .args .reply))) (c .before .before .channel .ensures))
+unfolding stepDoes messageDoes
+returns-7 c =
+    let s = c .before .before .before .before .before .before .before .before .before .before .before in
+    let a = s .args in
+    rw (c .before .before .before .before .before .event3 .given .1, sender (a .player) (s .pre .1 .0))
+    (ap (λ (o : Outcome). took (a .stepped .receiver) (o .answer) (o .held) (now (a .receive)) (written (o .sent) (now (a .reply)))) (c .before .before .channel .ensures))
 
 pub act-spec : {M : Type 1} → statement M
 act-spec =

@@ -1,16 +1,17 @@
 -- The tests are those of `readyDoes`, in its order.
 use mathlib.Core.Path.{sym, _∙_}
-use Rattle.podbox.specs.Take.{readyDoes}
+use Rattle.sockets.specs.Promise.{stepDoes}
+use Rattle.podbox.specs.Private.{readyDoes}
 use Rattle.podbox.proofs.Taking.{step-within}
 use borrow.Author.Needs.{needs}
 use Rattle.podbox.proofs.socket.take_ready.Statement.{statement}
 use Rattle.podbox.proofs.socket.take_ready.Tie as tie
 
 act-requires : tie.Need-act-requires
-act-requires c κs = let is-sound = sym (c .before .before .before .before .before .before .before .sound .ensures) ∙ c .before .before .before .before .before .before .if1 .taken in (search needs, rw (c .before .before .before .step .ensures) (step-within _ _ is-sound))
+act-requires c κs = let is-sound = sym (c .before .before .before .before .before .before .before .sound .ensures) ∙ c .before .before .before .before .before .before .if1 .taken in (search needs, (search needs, rw (c .before .before .before .step .ensures) (step-within _ _ is-sound)))
 
 returns : tie.Need-returns
-unfolding readyDoes
+unfolding readyDoes stepDoes
 returns c = rw (← c .before .before .before .before .before .before .before .before .before .before .before .before .before .before .sound .ensures, c .before .before .before .before .before .before .before .before .before .before .before .before .before .if1 .taken, ← c .before .before .before .before .before .before .before .before .before .before .before .before .are-valid .ensures, c .before .before .before .before .before .before .before .before .before .before .before .if2 .taken, ← c .before .before .before .before .before .before .before .before .before .before .step .ensures) (c .before .before .before .before .before .before .act .ensures)
 
 returns-2 : tie.Need-returns-2
