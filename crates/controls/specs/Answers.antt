@@ -11,9 +11,9 @@ changeNumber change.Applied = 3
 changeNumber (change.Refused number) = number
 
 -- "Here and in scaling a value is told apart from a refusal number": a value has no number
-abbrev pub readingNumber : Reading → ℕ
-readingNumber (reading.Value value) = 0
-readingNumber (reading.Refused number) = number
+abbrev pub refusalOf : Reading → ℕ
+refusalOf (reading.Value value) = 0
+refusalOf (reading.Refused number) = number
 
 abbrev pub valueOf : Reading → ℕ
 valueOf (reading.Value value) = value

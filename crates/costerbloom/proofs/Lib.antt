@@ -1,3 +1,1 @@
-pub mod ToldApart
-pub mod AsTheBox
 pub mod OneResult

@@ -2,26 +2,26 @@
 use Prim.Native.Nat.{ℕ}
 use mathlib.Core.List.{List}
 use mathlib.Core.Path.{_≡_}
-use Rattle.ground.proofs.OneResult.{one}
+use Rattle.ground.specs.Calls.{left}
+use Rattle.ground.proofs.OneResult.{one, left-one}
+use Rattle.programs.specs.Held.{Held}
 use Rattle.framing.specs.declared.Receiver.{Receiver}
+use Rattle.sockets.specs.Box.{took}
+use Rattle.sockets.proofs.OneResult.{took-one}
 use Rattle.sysex.specs.declared.Settings.{Settings}
-use Rattle.sysex.specs.Carrying.{left}
-use Rattle.sysex.proofs.OneResult.{left-one}
-use Rattle.podbox.specs.Take.{took}
-use Rattle.podbox.proofs.OneResult.{took-one}
 use Rattle.costerbloom.specs.Numbers.{takeNumbers, wholeNumbers, scaleNumber, backNumber}
 
-pub costerbloom-take-one : (settings : Settings) (socket : ℕ) (receiver : Receiver) (byte : ℕ) (memory receive reply : List ℕ) (r s : Receiver) (a b : ℕ) (m n x y o p : List ℕ)
-    → took r a m x o ≡ takeNumbers settings socket receiver byte memory receive reply → took s b n y p ≡ takeNumbers settings socket receiver byte memory receive reply
+pub costerbloom-take-one : (settings : Settings) (socket : ℕ) (receiver : Receiver) (byte : ℕ) (held : Held) (receive reply : List ℕ) (r s : Receiver) (a b : ℕ) (m n : Held) (x y o p : List ℕ)
+    → took r a m x o ≡ takeNumbers settings socket receiver byte held receive reply → took s b n y p ≡ takeNumbers settings socket receiver byte held receive reply
     → (r ≡ s) × (a ≡ b) × (m ≡ n) × (x ≡ y) × (o ≡ p)
-costerbloom-take-one settings socket receiver byte memory receive reply r s a b m n x y o p = took-one
+costerbloom-take-one settings socket receiver byte held receive reply r s a b m n x y o p = took-one
 
-pub costerbloom-whole-one : (settings : Settings) (message memory reply : List ℕ) (a b : ℕ) (m n x y : List ℕ)
-    → left a m x ≡ wholeNumbers settings message memory reply → left b n y ≡ wholeNumbers settings message memory reply → (a ≡ b) × (m ≡ n) × (x ≡ y)
-costerbloom-whole-one settings message memory reply a b m n x y = left-one
+pub costerbloom-whole-one : (settings : Settings) (message : List ℕ) (held : Held) (reply : List ℕ) (a b : ℕ) (m n : Held) (x y : List ℕ)
+    → left a m x ≡ wholeNumbers settings message held reply → left b n y ≡ wholeNumbers settings message held reply → (a ≡ b) × (m ≡ n) × (x ≡ y)
+costerbloom-whole-one settings message held reply a b m n x y = left-one
 
 pub costerbloom-scale-one : (controller value : ℕ) (r s : ℕ) → r ≡ scaleNumber controller value → s ≡ scaleNumber controller value → r ≡ s
 costerbloom-scale-one controller value r s = one
 
-pub costerbloom-back-one : (controller : ℕ) (memory : List ℕ) (r s : ℕ) → r ≡ backNumber controller memory → s ≡ backNumber controller memory → r ≡ s
-costerbloom-back-one controller memory r s = one
+pub costerbloom-back-one : (controller : ℕ) (held : Held) (r s : ℕ) → r ≡ backNumber controller held → s ≡ backNumber controller held → r ≡ s
+costerbloom-back-one controller held r s = one

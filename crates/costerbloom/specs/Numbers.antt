@@ -1,22 +1,22 @@
 -- The C interface: "numbers and byte buffers only".
 use Prim.Native.Nat.{ℕ, _+_, _*_}
-use mathlib.Core.Bool.{cond}
-use mathlib.Core.List.{List}
-use lib.Dec.{ltb}
-use lib.ListN.{length}
+use mathlib.Core.List.{List, [], _∷_}
+use Rattle.ground.specs.Tests.{tested}
+use Rattle.ground.specs.Calls.{Left, left}
+use Rattle.programs.specs.Memory.{programSize}
+use Rattle.programs.specs.Held.{Held, Edit, bytesIn}
 use Rattle.controls.specs.declared.Reading.{Reading}
 use Rattle.controls.specs.declared.Reading.the-variants as reading
+use Rattle.controls.specs.Answers.{refusalOf, valueOf}
 use Rattle.controls.specs.Scaling.{scaleOf}
 use Rattle.controls.specs.Showing.{backOf}
 use Rattle.framing.specs.declared.Receiver.{Receiver}
+use Rattle.sockets.specs.Box.{Took, took}
 use Rattle.sysex.specs.declared.Settings.{Settings}
 use Rattle.sysex.specs.declared.Answer.{Answer}
-use Rattle.sysex.specs.Memory.{memorySize, editPlace, partOf}
-use Rattle.sysex.specs.Carrying.{LeftBy, Left, left}
-use Rattle.sysex.specs.Numbers.{numberOf, lengthOf}
-use Rattle.podbox.specs.Settings.{size}
-use Rattle.podbox.specs.Whole.{wholeOf}
-use Rattle.podbox.specs.Take.{TookBy, TookByte, took, takeOf}
+use Rattle.sysex.specs.Numbers.{answerNumber, answerLength}
+use Rattle.sysex.specs.Carrying.{heldTest}
+use Rattle.podbox.specs.Box.{panel, takeOf, wholeOf}
 
 -- the settings, each a number of its own
 abbrev pub settingsOf : ℕ → ℕ → ℕ → ℕ → ℕ → ℕ → Settings
@@ -25,36 +25,33 @@ settingsOf channel omni revision0 revision1 revision2 revision3 =
 
 -- an answer: its number in bits 0 to 7, its reply length in bits 8 to 23
 unfoldable pub packed : Answer → ℕ
-packed answer = numberOf answer + 256 * lengthOf answer
+packed answer = answerNumber answer + 256 * answerLength answer
 
 -- "a value is told apart from a refusal number": a value is below 65,536, and a refusal is 65,536 and its number
-unfoldable pub said : Reading → ℕ
-said (reading.Value value) = value
-said (reading.Refused number) = 65536 + number
+unfoldable pub readingNumber : Reading → ℕ
+readingNumber (reading.Value value) = valueOf (reading.Value value)
+readingNumber (reading.Refused number) = 65536 + refusalOf (reading.Refused number)
 
--- what `takeOf` leaves, its answer as a number
-abbrev pub inNumbers : TookByte → TookBy ℕ
-inNumbers t = took (t .receiver) (packed (t .answer)) (t .memory) (t .receive) (t .reply)
+-- what `takeOf` and `wholeOf` leave, the answer as a number
+abbrev pub tookNumbers : Took Held Answer → Took Held ℕ
+tookNumbers t = took (t .receiver) (packed (t .answer)) (t .held) (t .receive) (t .reply)
 
-unfoldable pub takeNumbers : Settings → ℕ → Receiver → ℕ → List ℕ → List ℕ → List ℕ → TookBy ℕ
-takeNumbers settings socket receiver byte memory receive reply = inNumbers (takeOf settings socket receiver byte memory receive reply)
+unfoldable pub takeNumbers : Settings → ℕ → Receiver → ℕ → Held → List ℕ → List ℕ → Took Held ℕ
+takeNumbers settings socket receiver byte held receive reply = tookNumbers (takeOf settings socket receiver byte held receive reply)
 
--- what `wholeOf` leaves, its answer as a number
-abbrev pub wholeInNumbers : Left → LeftBy ℕ
-wholeInNumbers l = left (packed (l .answer)) (l .memory) (l .reply)
+abbrev pub leftNumbers : Left Held Answer → Left Held ℕ
+leftNumbers l = left (packed (l .answer)) (l .held) (l .reply)
 
-unfoldable pub wholeNumbers : Settings → List ℕ → List ℕ → List ℕ → LeftBy ℕ
-wholeNumbers settings message memory reply = wholeInNumbers (wholeOf settings message memory reply)
+unfoldable pub wholeNumbers : Settings → List ℕ → Held → List ℕ → Left Held ℕ
+wholeNumbers settings message held reply = leftNumbers (wholeOf settings message held reply)
 
 -- "Scaling may be asked directly"
 unfoldable pub scaleNumber : ℕ → ℕ → ℕ
-scaleNumber controller value = said (scaleOf controller value)
+scaleNumber controller value = readingNumber (scaleOf controller value)
 
--- "Back, from the edit buffer", where memory is lent: 30 for a short one
-unfoldable pub memoryBack : ℕ → List ℕ → Reading
-memoryBack controller memory =
-    cond (ltb (length memory) (memorySize size)) (reading.Refused 30)
-    (backOf controller (partOf (editPlace size) size memory))
+-- "Back, from the edit buffer", the panel's, where memory is lent: 30 for a short one
+unfoldable pub memoryBack : ℕ → Held → Reading
+memoryBack controller held = tested (heldTest programSize held ∷ []) reading.Refused (backOf controller (bytesIn programSize panel Edit held))
 
-unfoldable pub backNumber : ℕ → List ℕ → ℕ
-backNumber controller memory = said (memoryBack controller memory)
+unfoldable pub backNumber : ℕ → Held → ℕ
+backNumber controller held = readingNumber (memoryBack controller held)

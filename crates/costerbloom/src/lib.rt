@@ -2,11 +2,13 @@
 mod numbers;
 
 ghost use mathlib.Core.Path.{_≡_};
-ghost use Rattle.sysex.specs.Carrying.{left};
-ghost use Rattle.podbox.specs.Take.{took};
+ghost use Rattle.ground.specs.Calls.{left};
+ghost use Rattle.programs.specs.Held.{heldOf};
+ghost use Rattle.sockets.specs.Box.{took};
 ghost use Rattle.costerbloom.specs.Numbers.{settingsOf, takeNumbers, wholeNumbers, scaleNumber, memoryBack, backNumber};
 use controls::Reading;
 use framing::Receiver;
+use programs::PROGRAM;
 
 // What the byte call gives back in numbers: the receiver for the next one, and the answer.
 struct Handed {
@@ -30,7 +32,7 @@ pub extern "C" fn costerbloom_take(
     receive: &mut [u8],
     reply: &mut [u8],
 ) -> u64
-    ensures { λ r. ⌜ took (now (receiver .exit)) r (now (memory .exit)) (now (receive .exit)) (now (reply .exit)) ≡ takeNumbers (settingsOf channel omni revision0 revision1 revision2 revision3) socket (now (receiver .entry)) byte (now (memory .entry)) (now (receive .entry)) (now (reply .entry)) ⌝ }
+    ensures { λ r. ⌜ took (now (receiver .exit)) r (heldOf (now (memory .exit))) (now (receive .exit)) (now (reply .exit)) ≡ takeNumbers (settingsOf channel omni revision0 revision1 revision2 revision3) socket (now (receiver .entry)) byte (heldOf (now (memory .entry))) (now (receive .entry)) (now (reply .entry)) ⌝ }
 {
     let handed = take(
         *receiver,
@@ -64,7 +66,7 @@ fn take(
     receive: &mut [u8],
     reply: &mut [u8],
 ) -> Handed
-    ensures { λ r. ⌜ took (r .receiver) (r .answer) (now (memory .exit)) (now (receive .exit)) (now (reply .exit)) ≡ takeNumbers (settingsOf channel omni revision0 revision1 revision2 revision3) socket receiver byte (now (memory .entry)) (now (receive .entry)) (now (reply .entry)) ⌝ }
+    ensures { λ r. ⌜ took (r .receiver) (r .answer) (heldOf (now (memory .exit))) (now (receive .exit)) (now (reply .exit)) ≡ takeNumbers (settingsOf channel omni revision0 revision1 revision2 revision3) socket receiver byte (heldOf (now (memory .entry))) (now (receive .entry)) (now (reply .entry)) ⌝ }
 {
     let settings = numbers::settings(channel, omni, revision0, revision1, revision2, revision3);
     let took = podbox::take_byte(receiver, socket, byte, settings, memory, receive, reply);
@@ -89,7 +91,7 @@ pub extern "C" fn costerbloom_whole(
     memory: &mut [u8],
     reply: &mut [u8],
 ) -> u64
-    ensures { λ r. ⌜ left r (now (memory .exit)) (now (reply .exit)) ≡ wholeNumbers (settingsOf channel omni revision0 revision1 revision2 revision3) (now (message .entry)) (now (memory .entry)) (now (reply .entry)) ⌝ }
+    ensures { λ r. ⌜ left r (heldOf (now (memory .exit))) (now (reply .exit)) ≡ wholeNumbers (settingsOf channel omni revision0 revision1 revision2 revision3) (now (message .entry)) (heldOf (now (memory .entry))) (now (reply .entry)) ⌝ }
 {
     let settings = numbers::settings(channel, omni, revision0, revision1, revision2, revision3);
     let answer = podbox::whole_message(message, settings, memory, reply);
@@ -102,24 +104,26 @@ pub extern "C" fn costerbloom_scale(controller: u32, value: u32) -> u32
     ensures { λ r. ⌜ r ≡ scaleNumber controller value ⌝ }
 {
     let reading = controls::scale(controller, value);
-    numbers::said(reading)
+    numbers::reading_number(reading)
 }
 
 // The value that the edit buffer shows for a controller.
 #[no_mangle]
 pub extern "C" fn costerbloom_back(memory: &[u8], controller: u32) -> u32
-    ensures { λ r. ⌜ r ≡ backNumber controller (now (memory .entry)) ⌝ }
+    ensures { λ r. ⌜ r ≡ backNumber controller (heldOf (now (memory .entry))) ⌝ }
 {
     let reading = back(memory, controller);
-    numbers::said(reading)
+    numbers::reading_number(reading)
 }
 
 // The same, told apart by an enum.
 fn back(memory: &[u8], controller: u32) -> Reading
-    ensures { λ r. ⌜ r ≡ memoryBack controller (now (memory .entry)) ⌝ }
+    ensures { λ r. ⌜ r ≡ memoryBack controller (heldOf (now (memory .entry))) ⌝ }
 {
     if memory.len() < podbox::MEMORY {
         return Reading::Refused(30);
     }
-    controls::show_back(controller, &memory[podbox::EDIT..podbox::MEMORY])
+    let place = programs::edit_place(PROGRAM as u8, podbox::PANEL);
+    let end = place + PROGRAM;
+    controls::show_back(controller, &memory[place..end])
 }

@@ -1,6 +1,6 @@
 // Settings from numbers, and answers as single numbers.
 ghost use mathlib.Core.Path.{_≡_};
-ghost use Rattle.costerbloom.specs.Numbers.{settingsOf, packed, said};
+ghost use Rattle.costerbloom.specs.Numbers.{settingsOf, packed, readingNumber};
 use controls::Reading;
 use sysex::Answer;
 use sysex::Settings;
@@ -29,14 +29,14 @@ pub(crate) fn settings(
 pub(crate) fn packed(answer: Answer) -> u64
     ensures { λ r. ⌜ r ≡ packed answer ⌝ }
 {
-    let number = sysex::number_of(answer) as u64;
-    let length = sysex::length_of(answer) as u64;
+    let number = sysex::answer_number(answer) as u64;
+    let length = sysex::answer_length(answer) as u64;
     number + 256 * length
 }
 
 // A value as it is, a refusal above every value.
-pub(crate) fn said(reading: Reading) -> u32
-    ensures { λ r. ⌜ r ≡ said reading ⌝ }
+pub(crate) fn reading_number(reading: Reading) -> u32
+    ensures { λ r. ⌜ r ≡ readingNumber reading ⌝ }
 {
     match reading {
         Reading::Value(value) => value as u32,

@@ -9,9 +9,6 @@ use crate::settings;
 use sysex::Answer;
 use sysex::Settings;
 
-// Whose messages the panel's are.
-const PANEL: u32 = 0;
-
 pub fn whole_message(
     message: &[u8],
     settings: Settings,
@@ -27,7 +24,7 @@ pub fn whole_message(
         return sysex::refused(30);
     }
     if settings::are_valid(settings) {
-        return framed(message, settings, PANEL, memory, reply);
+        return framed(message, settings, settings::PANEL, memory, reply);
     }
     sysex::refused(32)
 }

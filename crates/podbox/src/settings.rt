@@ -11,6 +11,9 @@ pub const MEMORY: usize = (PROGRAMS + 1) * PROGRAM;
 // The longest message, F0 and F7 with it: an all programs dump.
 pub const LONGEST: usize = 2 * PROGRAMS * PROGRAM + 9;
 
+// The player whose messages the panel's are, and whose edit buffer it shows.
+pub const PANEL: u32 = 0;
+
 // The shortest that a call may be lent: memory, and a receive or a reply buffer.
 pub type Memory = [u8; MEMORY];
 

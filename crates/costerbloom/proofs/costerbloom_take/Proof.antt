@@ -43,7 +43,8 @@ use denote.Triple.Table.{entered, cited}
 use denote.Triple.Walked.{says, Stays, stay-ref, stay-none, gave-slice, walkOf, AllGo, goes-none, goes-ref, goes-gave-slice, Walks, ends-at, walked, walk-meets}
 use denote.Exit.{yes}
 use Rattle.framing.specs.declared.Receiver.{Receiver}
-use Rattle.podbox.specs.Take.{took}
+use Rattle.programs.specs.Held.{heldOf}
+use Rattle.sockets.specs.Box.{took}
 use Rattle.costerbloom.specs.declared.Handed.{Handed}
 use Rattle.costerbloom.specs.Numbers.{settingsOf, takeNumbers}
 use Rattle.framing.proofs.Receiver as T
@@ -105,7 +106,7 @@ module _ {M : Type 1} (𝓤 : URA M) (H : Heap 𝓤) (A : Atoms 𝓤) (W : Given
 
   -- what `take` ensures, at some last lists
   abbrev Said : Handed → List ℕ → List ℕ → List ℕ → Type 0
-  Said t z-memory z-receive z-reply = (took (t .receiver) (t .answer) z-memory z-receive z-reply ≡ takeNumbers (settingsOf channel omni revision0 revision1 revision2 revision3) socket h byte (x-memory .now) (x-receive .now) (x-reply .now))
+  Said t z-memory z-receive z-reply = (took (t .receiver) (t .answer) (heldOf z-memory) z-receive z-reply ≡ takeNumbers (settingsOf channel omni revision0 revision1 revision2 revision3) socket h byte (heldOf (x-memory .now)) (x-receive .now) (x-reply .now))
 
   abbrev left : Handed → List ℕ → List ℕ → List ℕ → List (Item 𝓤)
   left t z-memory z-receive z-reply = ‵ (fobs γ (T.the-row .coded .code (t .receiver))) ∷ ‵ (fbor κ (Body (mem-of T.the-row) b o γ)) ∷
