@@ -7,10 +7,10 @@ use Rattle.why.specs.declared.Input.{Input}
 use Rattle.why.specs.declared.Input.the-variants as input
 
 -- how many places the buffer has: one more than the longest message has bytes
-abbrev pub room : ℕ
-room = 5194
+abbrev pub bufferSize : ℕ
+bufferSize = 5194
 
--- one part: `count` bytes are kept where `before` were, once `part` came
+-- one part: `count` bytes are kept where `before` were, once `part` came, and the buffer keeps its length
 pub record Kept (count : ℕ) (message entry : List ℕ) (before : ℕ) (part : List ℕ) : Type 0 where
   pub places : length message ≡ length entry
   pub counted : count ≡ min (length entry) (before + length part)

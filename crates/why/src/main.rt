@@ -5,7 +5,7 @@ ghost use Prim.Native.Nat.{_≤_};
 ghost use mathlib.Core.List.{[], _∷_};
 ghost use mathlib.Core.Path.{_≡_};
 ghost use lib.ListN.{length};
-ghost use Rattle.why.specs.Kept.{room, Kept, Reads};
+ghost use Rattle.why.specs.Kept.{bufferSize, Kept, Reads};
 use libc::STDERR_FILENO;
 use libc::STDIN_FILENO;
 
@@ -40,9 +40,10 @@ fn tell(message: &[u8], kept: usize) {
 }
 
 // The input is read to its end, so that whoever writes it is not cut off. A proved loop has to end, and nothing says that
-// an input does: so its turns are counted, up to a number that no run reaches.
+// an input does: so its turns are counted, up to a number that no run reaches. What is kept in a buffer of this size has
+// the reason of all that came: `reason-of-all`.
 fn read_all(message: &mut [u8], part: &mut [u8]) -> Input
-    requires { ⌜ length (now message) ≡ room ⌝ }
+    requires { ⌜ length (now message) ≡ bufferSize ⌝ }
     ensures { λ r. ⌜ Reads r (now (message .exit)) (now (message .entry)) ⌝ }
 {
     let mut kept = 0;

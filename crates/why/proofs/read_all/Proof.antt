@@ -1,4 +1,4 @@
--- A turn for each part, up to a number that no run reaches. The buffers keep their lengths, what is kept has room, and the turns are steps of parts.
+-- A turn for each part, up to a number that no run reaches. The buffers keep their lengths, what is kept has room, and each turn is a step.
 use Prim.Native.Nat.{ℕ, _≤_, _-_}
 use mathlib.Core.List.{List, []}
 use mathlib.Core.Path.{_≡_}
@@ -6,7 +6,7 @@ use native.Mathlib.Omega.{arith}
 use lib.ListN.{length}
 use borrow.Author.Needs.{needs}
 use Rattle.why.specs.Kept.{Steps, done}
-use Rattle.why.proofs.AllKept.{behind}
+use Rattle.why.proofs.AllKept.{part-behind}
 use Rattle.why.proofs.read_all.Statement.{statement}
 use Rattle.why.proofs.read_all.Tie as tie
 
@@ -27,7 +27,7 @@ loop-again : tie.Need-loop-again Inv-loop μ-loop
 loop-again c =
     let k = c .before .before in
     let made = k .before .before .before .before .before .before .before .before .before .before .before .before .loop .inv .3 in
-    (search needs, search needs, omega (arith, k .keep .ensures .counted, k .keep .ensures .places), (_, behind (made .1) (k .keep .ensures)))
+    (search needs, search needs, omega (arith, k .keep .ensures .counted, k .keep .ensures .places), (_, part-behind (made .1) (k .keep .ensures)))
 
 pub read-all-spec : {M : Type 1} → statement M
 read-all-spec =
