@@ -7,9 +7,10 @@ use borrow.Author.Tests.{le-leb, not-true}
 use Rattle.ground.proofs.Tests.{both}
 use Rattle.framing.specs.declared.Receiver.{Receiver}
 use Rattle.framing.specs.Receiver.{isChannel, takesOne, takesTwo, soundOf}
-use Rattle.framing.proofs.Stands.{Stands, idle, under, holding, opened, overlong, stands-sound, sound-stands, as-numbers, channel}
+use Rattle.framing.specs.Standing.{Stands, idle, under, holding, opened, overlong}
+use Rattle.framing.proofs.Stands.{stands-sound, sound-stands, as-numbers, channel}
 
-pub record Open (limit : ℕ) (r : Receiver) : Type 0 where
+pub record OpenNumbers (limit : ℕ) (r : Receiver) : Type 0 where
   pub none : r .running ≡ 0
   pub empty : r .held ≡ 0
   pub clear : r .waiting ≡ 0
@@ -18,7 +19,7 @@ pub record Open (limit : ℕ) (r : Receiver) : Type 0 where
   pub mark : r .over ≤ 1
   pub full : r .over ≡ 1 → r .stored ≡ limit
 
-open-of : {limit : ℕ} {r : Receiver} → Stands limit r → r .inside ≡ 1 → Open limit r
+open-of : {limit : ℕ} {r : Receiver} → Stands limit r → r .inside ≡ 1 → OpenNumbers limit r
 open-of idle e = absurd (omega arith)
 open-of (under lo hi) e = absurd (omega arith)
 open-of (holding lo hi two low) e = absurd (omega arith)
@@ -27,7 +28,7 @@ open-of (opened lo hi) e =
 open-of (overlong some) e =
     record { none = refl; empty = refl; clear = refl; some = some; fits = omega arith; mark = omega arith; full = λ o. refl }
 
-pub record Shut (r : Receiver) : Type 0 where
+pub record ShutNumbers (r : Receiver) : Type 0 where
   pub nothing : r .stored ≡ 0
   pub shut : r .inside ≡ 0
   pub short : r .over ≡ 0
@@ -38,7 +39,7 @@ pub record Shut (r : Receiver) : Type 0 where
   pub status : (r .running ≡ 0 → ⊥) → 0x80 ≤ r .running
   pub two : r .held ≡ 1 → takesTwo (r .running) ≡ true
 
-shut-of : {limit : ℕ} {r : Receiver} → Stands limit r → (r .inside ≡ 1 → ⊥) → Shut r
+shut-of : {limit : ℕ} {r : Receiver} → Stands limit r → (r .inside ≡ 1 → ⊥) → ShutNumbers r
 unfolding takesTwo
 shut-of idle e =
     record { nothing = refl; shut = refl; short = refl; flag = omega arith; low = omega arith; top = omega arith; clear = λ h. refl; status = λ n. absurd (n refl); two = λ h. absurd (omega arith) }
@@ -57,10 +58,10 @@ settled true f = absurd (f refl)
 settled false f = refl
 
 module _ (limit : ℕ) (r : Receiver) where
-  pub open-not : r .inside ≡ 1 → (Open limit r → ⊥) → false ≡ soundOf limit r
+  pub open-not : r .inside ≡ 1 → (OpenNumbers limit r → ⊥) → false ≡ soundOf limit r
   open-not e f = settled (soundOf limit r) (λ h. f (open-of (sound-stands limit r h) e))
 
-  pub shut-not : (r .inside ≡ 1 → ⊥) → (Shut r → ⊥) → false ≡ soundOf limit r
+  pub shut-not : (r .inside ≡ 1 → ⊥) → (ShutNumbers r → ⊥) → false ≡ soundOf limit r
   shut-not e f = settled (soundOf limit r) (λ h. f (shut-of (sound-stands limit r h) e))
 
   module _ (inside : r .inside ≡ 1) (none : r .running ≡ 0) (empty : r .held ≡ 0) (clear : r .waiting ≡ 0) (some : 1 ≤ r .stored) (fits : r .stored ≤ limit) where

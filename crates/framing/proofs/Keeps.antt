@@ -12,25 +12,26 @@ use Rattle.framing.specs.declared.Event.{Event}
 use Rattle.framing.specs.declared.Event.the-variants.{Nothing, Collect, Cut, CutAndOpen, TooLong, SysEx, Channel}
 use Rattle.framing.specs.Receiver.{fresh, underOf, holdingOf, openedOf, isOpen, takesOne, soundOf}
 use Rattle.framing.specs.Bytes.{isRealTime, isData, statusOf, addedOf, finishedOf, insideOf, dataOf, outsideOf, stepOf}
-use Rattle.framing.proofs.Stands.{Stands, idle, under, holding, opened, overlong, sound-stands, stands-sound}
+use Rattle.framing.specs.Standing.{Stands, idle, under, holding, opened, overlong}
+use Rattle.framing.proofs.Stands.{sound-stands, stands-sound}
 
 -- a place below the limit, 1 to limit bytes, a channel status and its data bytes
-abbrev Fits : ℕ → Event → Type 0
-Fits limit Nothing = Unit
-Fits limit (Collect place) = place < limit
-Fits limit Cut = Unit
-Fits limit CutAndOpen = Unit
-Fits limit TooLong = Unit
-Fits limit (SysEx count) = (1 ≤ count) × (count ≤ limit)
-Fits limit (Channel status first second) = (0x80 ≤ status) × (status ≤ 0xEF) × (first ≤ 0x7F) × (second ≤ 0x7F)
+abbrev Bounded : ℕ → Event → Type 0
+Bounded limit Nothing = Unit
+Bounded limit (Collect place) = place < limit
+Bounded limit Cut = Unit
+Bounded limit CutAndOpen = Unit
+Bounded limit TooLong = Unit
+Bounded limit (SysEx count) = (1 ≤ count) × (count ≤ limit)
+Bounded limit (Channel status first second) = (0x80 ≤ status) × (status ≤ 0xEF) × (first ≤ 0x7F) × (second ≤ 0x7F)
 
--- of a step: how the receiver stands after it, and that its event fits
+-- of a step: how the receiver stands after it, and that its event keeps within its bounds
 abbrev Good : ℕ → Stepped → Type 0
-Good limit s = Stands limit (s .receiver) × Fits limit (s .event)
+Good limit s = Stands limit (s .receiver) × Bounded limit (s .event)
 
 module _ (limit : ℕ) (some : 1 ≤ limit) (byte : ℕ) where
   -- a status byte, inside a SysEx and outside
-  status : (event opening : Event) → Fits limit event → Fits limit opening → isData byte ≡ false → Good limit (statusOf byte event opening)
+  status : (event opening : Event) → Bounded limit event → Bounded limit opening → isData byte ≡ false → Good limit (statusOf byte event opening)
   status event opening e o d =
       by (Good limit) (ltb byte 0xF0) _ _
       (λ c. (under (ltb-false byte 0x80 d) (omega (arith, ltb-true byte 0xF0 c)), e))
@@ -92,13 +93,13 @@ module _ (limit : ℕ) (some : 1 ≤ limit) (r : Receiver) (sound : soundOf limi
 
   -- a byte is collected only at a place below the limit
   pub collects-below : (place : ℕ) → stepOf limit r byte .event ≡ Collect place → place < limit
-  collects-below place e = subst (Fits limit) e (stepped .1)
+  collects-below place e = subst (Bounded limit) e (stepped .1)
 
   -- a finished SysEx has 1 to limit bytes
   pub finishes-within : (count : ℕ) → stepOf limit r byte .event ≡ SysEx count → (1 ≤ count) × (count ≤ limit)
-  finishes-within count e = subst (Fits limit) e (stepped .1)
+  finishes-within count e = subst (Bounded limit) e (stepped .1)
 
   -- a finished channel message has a status of 80 to EF and data bytes
   pub channel-bytes : (status first second : ℕ) → stepOf limit r byte .event ≡ Channel status first second
       → (0x80 ≤ status) × (status ≤ 0xEF) × (first ≤ 0x7F) × (second ≤ 0x7F)
-  channel-bytes status first second e = subst (Fits limit) e (stepped .1)
+  channel-bytes status first second e = subst (Bounded limit) e (stepped .1)

@@ -1,26 +1,17 @@
--- Which byte goes to which place of the receive buffer.
-use Prim.Native.Nat.{ℕ, _<_}
-use mathlib.Core.Logic.{_⊎_, inl, inr}
+-- Each byte goes to the place of the receive buffer where it belongs.
+use Prim.Native.Nat.{ℕ}
+use mathlib.Core.Logic.{inl, inr}
 use mathlib.Core.Path.{_≡_, refl}
 use lib.Dec.{ltb, eqb}
 use borrow.Author.Tests.{ltb-true, eqb-true}
 use Rattle.ground.proofs.Tests.{by}
 use Rattle.framing.specs.declared.Receiver.{Receiver}
 use Rattle.framing.specs.declared.Event.{Event}
-use Rattle.framing.specs.declared.Event.the-variants.{Nothing, Collect, Cut, CutAndOpen, TooLong, SysEx, Channel}
+use Rattle.framing.specs.declared.Event.the-variants.{Nothing, Collect, Cut, CutAndOpen}
 use Rattle.framing.specs.declared.Stepped.{Stepped}
 use Rattle.framing.specs.Receiver.{isOpen, isLong, waits, isNone, takesOne}
 use Rattle.framing.specs.Bytes.{isRealTime, isData, statusOf, stepOf}
-
--- a data byte goes behind what is stored, F0 to the start, and no other byte anywhere
-abbrev pub Belongs : Receiver → ℕ → Event → Type 0
-Belongs r byte Nothing = Unit {0}
-Belongs r byte (Collect place) = ((place ≡ r .stored) × (byte < 0x80)) ⊎ ((place ≡ 0) × (byte ≡ 0xF0))
-Belongs r byte Cut = Unit {0}
-Belongs r byte CutAndOpen = byte ≡ 0xF0
-Belongs r byte TooLong = Unit {0}
-Belongs r byte (SysEx count) = Unit {0}
-Belongs r byte (Channel status first second) = Unit {0}
+use Rattle.framing.specs.Places.{Belongs}
 
 module _ (limit : ℕ) (r : Receiver) (byte : ℕ) where
   abbrev Right : Stepped → Type 0
@@ -30,7 +21,7 @@ module _ (limit : ℕ) (r : Receiver) (byte : ℕ) where
   status event opening e o =
       by Right (ltb byte 0xF0) _ _ (λ _. e) (λ _. by Right (eqb byte 0xF0) _ _ (λ f. o (eqb-true byte 0xF0 f)) (λ _. e))
 
-  pub belongs : Right (stepOf limit r byte)
+  pub belongs : Belongs r byte (stepOf limit r byte .event)
   unfolding stepOf
   belongs =
       by Right (isRealTime byte) _ _ (λ _. tt)

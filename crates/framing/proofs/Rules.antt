@@ -10,17 +10,17 @@ use Rattle.framing.specs.declared.Stepped.{Stepped}
 use Rattle.framing.specs.declared.Event.{Event}
 use Rattle.framing.specs.declared.Event.the-variants.{Nothing, Collect}
 use Rattle.framing.specs.Receiver.{fresh, isOpen, isLong}
-use Rattle.framing.specs.Events.{numberOf}
-use Rattle.framing.specs.Bytes.{leaves, statusOf, finishedOf, stepOf}
+use Rattle.framing.specs.Events.{eventNumber}
+use Rattle.framing.specs.Bytes.{stepTo, statusOf, finishedOf, stepOf}
 
 -- "F8 to FF: reply number 0, and nothing changes, in the middle of a message too."
-pub real-time : (limit : ℕ) (r : Receiver) (byte : ℕ) → 0xF8 ≤ byte → stepOf limit r byte ≡ leaves r Nothing
+pub real-time : (limit : ℕ) (r : Receiver) (byte : ℕ) → 0xF8 ≤ byte → stepOf limit r byte ≡ stepTo r Nothing
 unfolding stepOf
 real-time limit r byte h = rw (le-leb 0xF8 byte h)
 
 -- what stands after a status byte does not depend on what it does besides
 picked : (t u : Bool) (x y z : Receiver) (event opening : Event)
-    → cond t (leaves x event) (cond u (leaves y opening) (leaves z event)) .receiver ≡ cond t x (cond u y z)
+    → cond t (stepTo x event) (cond u (stepTo y opening) (stepTo z event)) .receiver ≡ cond t x (cond u y z)
 picked true u x y z event opening = refl
 picked false true x y z event opening = refl
 picked false false x y z event opening = refl
@@ -44,9 +44,9 @@ module _ (limit : ℕ) (r : Receiver) (byte : ℕ) (status : 0x80 ≤ byte) (bel
       (λ o. refl))
 
   -- "Any other status byte below F8 cuts it (number 4)", marked too long or not
-  pub cuts : isOpen r ≡ true → (byte ≡ 0xF7 → ⊥) → (judged : ℕ) → numberOf judged (stepOf limit r byte .event) ≡ 4
+  pub cuts : isOpen r ≡ true → (byte ≡ 0xF7 → ⊥) → (judged : ℕ) → eventNumber judged (stepOf limit r byte .event) ≡ 4
   unfolding stepOf
   cuts o n judged =
-      let Four : Stepped → Type 0 = λ s. numberOf judged (s .event) ≡ 4 in
+      let Four : Stepped → Type 0 = λ s. eventNumber judged (s .event) ≡ 4 in
       rw (lt-leb 0xF8 byte below, o, le-ltb byte 0x80 status, ne-eqb byte 0xF7 n)
       (by Four (ltb byte 0xF0) _ _ (λ _. refl) (λ _. by Four (eqb byte 0xF0) _ _ (λ _. refl) (λ _. refl)))

@@ -7,21 +7,10 @@ use lib.Dec.{leb, eqb}
 use borrow.Author.Tests.{leb-true, eqb-true, eqb-false, le-leb, eq-eqb, ne-eqb, not-true}
 use Rattle.ground.proofs.Tests.{both, by}
 use Rattle.framing.specs.declared.Receiver.{Receiver}
-use Rattle.framing.specs.Receiver.{fresh, underOf, holdingOf, openedOf, isOpen, isLong, waits, isNone, isChannel, takesOne, takesTwo}
+use Rattle.framing.specs.Receiver.{fresh, isOpen, isLong, waits, isNone, isChannel, takesOne, takesTwo}
 use Rattle.framing.specs.Receiver.{countFits, countShowsOpen, runningIsStatus, noneWhileOpen, waitingIsData, waitingUnderTwo}
 use Rattle.framing.specs.Receiver.{isWritten, countRight, runningRight, waitingRight, longIsFull, soundOf}
-
-pub data Stands (limit : ℕ) : Receiver → Type 0 where
-  -- nothing open, stored, waiting or running
-  idle : Stands limit fresh
-  -- running status 80 to EF, and nothing half received
-  under : {s : ℕ} → 0x80 ≤ s → s ≤ 0xEF → Stands limit (underOf s)
-  -- the first of two data bytes waits
-  holding : {s d : ℕ} → 0x80 ≤ s → s ≤ 0xEF → takesOne s ≡ false → d ≤ 0x7F → Stands limit (holdingOf s d)
-  -- an open SysEx, not marked
-  opened : {n : ℕ} → 1 ≤ n → n ≤ limit → Stands limit (openedOf n 0)
-  -- an open SysEx marked too long, with the limit stored
-  overlong : 1 ≤ limit → Stands limit (openedOf limit 1)
+use Rattle.framing.specs.Standing.{Stands, idle, under, holding, opened, overlong}
 
 -- each of the five is sound
 pub stands-sound : (limit : ℕ) {r : Receiver} → Stands limit r → soundOf limit r ≡ true

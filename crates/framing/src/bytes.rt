@@ -1,7 +1,7 @@
 // What one byte does to a receiver: a function for each definition of the byte rules, with its tests in its order.
 ghost use mathlib.Core.Path.{_≡_};
 ghost use Rattle.framing.specs.Receiver.{underOf, holdingOf, openedOf, takesOne};
-ghost use Rattle.framing.specs.Bytes.{leaves, statusOf, addedOf, finishedOf, insideOf, dataOf, outsideOf, stepOf};
+ghost use Rattle.framing.specs.Bytes.{stepTo, statusOf, addedOf, finishedOf, insideOf, dataOf, outsideOf, stepOf};
 use crate::Event;
 use crate::Receiver;
 use crate::Stepped;
@@ -152,7 +152,7 @@ fn inside(receiver: Receiver, byte: u8, limit: u16) -> Stepped
 // Nothing changes. The receiver is copied number by number, as the other receivers of `data_byte` are made: a copy of
 // the whole among them costs the compiler a way through memory.
 fn kept(receiver: Receiver) -> Stepped
-    ensures { λ s. ⌜ s ≡ leaves receiver Event.Nothing ⌝ }
+    ensures { λ s. ⌜ s ≡ stepTo receiver Event.Nothing ⌝ }
 {
     Stepped {
         receiver: Receiver {

@@ -2,6 +2,8 @@
 mod bytes;
 mod soundness;
 
+ghost use mathlib.Core.Path.{_≡_};
+ghost use Rattle.framing.specs.Receiver.{fresh};
 pub use bytes::step;
 pub use soundness::sound;
 
@@ -23,14 +25,18 @@ pub struct Receiver {
 }
 
 // Nothing open, stored, waiting or running.
-pub const FRESH: Receiver = Receiver {
-    stored: 0,
-    inside: 0,
-    over: 0,
-    running: 0,
-    held: 0,
-    waiting: 0,
-};
+pub fn fresh() -> Receiver
+    ensures { λ r. ⌜ r ≡ fresh ⌝ }
+{
+    Receiver {
+        stored: 0,
+        inside: 0,
+        over: 0,
+        running: 0,
+        held: 0,
+        waiting: 0,
+    }
+}
 
 // What a byte did, and what it leaves to do for whoever has the receive buffer.
 pub enum Event {

@@ -12,7 +12,7 @@ use Rattle.ground.proofs.Tests.{both, by}
 use Rattle.halves.specs.declared.Moved.{Moved}
 use Rattle.halves.specs.declared.Moved.the-variants.{Done}
 use Rattle.halves.specs.HalfBytes.{split, join, allHalves}
-use Rattle.halves.specs.Moving.{Left, left, numberOf, fits, splitInto, joinInto}
+use Rattle.halves.specs.Moving.{Filled, filled, movedNumber, fits, splitInto, joinInto}
 
 whole : (x : ℕ) → x / 16 * 16 + x % 16 ≡ x
 whole x = omega arith
@@ -67,26 +67,26 @@ length-join (high ∷ []) = refl
 length-join (high ∷ low ∷ xs) = omega (arith, length-join xs)
 
 -- What a caller may count on: all is moved where the lengths fit, and the half bytes are half bytes.
-split-done : (bytes halves : List ℕ) → length halves ≡ 2 * length bytes → splitInto bytes halves ≡ left Done (split bytes)
+split-done : (bytes halves : List ℕ) → length halves ≡ 2 * length bytes → splitInto bytes halves ≡ filled Done (split bytes)
 unfolding splitInto
 split-done bytes halves e = rw (eq-eqb (length halves) (2 * length bytes) e)
 
-join-done : (halves bytes : List ℕ) → length halves ≡ 2 * length bytes → allHalves halves ≡ true → joinInto halves bytes ≡ left Done (join halves)
+join-done : (halves bytes : List ℕ) → length halves ≡ 2 * length bytes → allHalves halves ≡ true → joinInto halves bytes ≡ filled Done (join halves)
 unfolding joinInto
 join-done halves bytes e h = rw (eq-eqb (length halves) (2 * length bytes) e, h)
 
 -- what a call leaves in a buffer that fits
-pub split-leaves : (bytes halves x : List ℕ) (r : Moved) → left r x ≡ splitInto bytes halves → length halves ≡ 2 * length bytes → x ≡ split bytes
-split-leaves bytes halves x r e h = ap (λ (l : Left). l .buffer) (e ∙ split-done bytes halves h)
+pub split-leaves : (bytes halves x : List ℕ) (r : Moved) → filled r x ≡ splitInto bytes halves → length halves ≡ 2 * length bytes → x ≡ split bytes
+split-leaves bytes halves x r e h = ap (λ (l : Filled). l .buffer) (e ∙ split-done bytes halves h)
 
-pub join-leaves : (halves bytes x : List ℕ) (r : Moved) → left r x ≡ joinInto halves bytes → length halves ≡ 2 * length bytes → allHalves halves ≡ true
+pub join-leaves : (halves bytes x : List ℕ) (r : Moved) → filled r x ≡ joinInto halves bytes → length halves ≡ 2 * length bytes → allHalves halves ≡ true
     → x ≡ join halves
-join-leaves halves bytes x r e h a = ap (λ (l : Left). l .buffer) (e ∙ join-done halves bytes h a)
+join-leaves halves bytes x r e h a = ap (λ (l : Filled). l .buffer) (e ∙ join-done halves bytes h a)
 
 -- a refusal writes nothing
-pub join-refused : (halves bytes : List ℕ) → (numberOf (joinInto halves bytes .answer) ≡ 0 → ⊥) → joinInto halves bytes .buffer ≡ bytes
+pub join-refused : (halves bytes : List ℕ) → (movedNumber (joinInto halves bytes .answer) ≡ 0 → ⊥) → joinInto halves bytes .buffer ≡ bytes
 unfolding joinInto
 join-refused halves bytes =
-    by (λ (l : Left). (numberOf (l .answer) ≡ 0 → ⊥) → l .buffer ≡ bytes) (fits bytes halves) _ _
-    (λ _. by (λ (l : Left). (numberOf (l .answer) ≡ 0 → ⊥) → l .buffer ≡ bytes) (allHalves halves) _ _ (λ _ n. absurd (n refl)) (λ _ _. refl))
+    by (λ (l : Filled). (movedNumber (l .answer) ≡ 0 → ⊥) → l .buffer ≡ bytes) (fits bytes halves) _ _
+    (λ _. by (λ (l : Filled). (movedNumber (l .answer) ≡ 0 → ⊥) → l .buffer ≡ bytes) (allHalves halves) _ _ (λ _ n. absurd (n refl)) (λ _ _. refl))
     (λ _ _. refl)

@@ -6,19 +6,19 @@ use mathlib.Core.Path.{_≡_, ap}
 use Rattle.ground.specs.Lists.{allAtMost}
 use Rattle.ground.proofs.OneResult.{one}
 use Rattle.halves.specs.declared.Moved.{Moved}
-use Rattle.halves.specs.Moving.{Left, left, splitInto, joinInto}
+use Rattle.halves.specs.Moving.{Filled, filled, splitInto, joinInto}
 
 pub all-at-most-one : (list : List ℕ) (top : ℕ) (r s : Bool) → r ≡ allAtMost top list → s ≡ allAtMost top list → r ≡ s
 all-at-most-one list top r s = one
 
 -- the two results of a move: the answers and the buffers
-moved-one : (w : Left) (r s : Moved) (x y : List ℕ) → left r x ≡ w → left s y ≡ w → (r ≡ s) × (x ≡ y)
-moved-one w r s x y p q = (ap (λ (l : Left). l .answer) (one p q), ap (λ (l : Left). l .buffer) (one p q))
+moved-one : (w : Filled) (r s : Moved) (x y : List ℕ) → filled r x ≡ w → filled s y ≡ w → (r ≡ s) × (x ≡ y)
+moved-one w r s x y p q = (ap (λ (l : Filled). l .answer) (one p q), ap (λ (l : Filled). l .buffer) (one p q))
 
 pub split-into-one : (bytes halves : List ℕ) (r s : Moved) (x y : List ℕ)
-    → left r x ≡ splitInto bytes halves → left s y ≡ splitInto bytes halves → (r ≡ s) × (x ≡ y)
+    → filled r x ≡ splitInto bytes halves → filled s y ≡ splitInto bytes halves → (r ≡ s) × (x ≡ y)
 split-into-one bytes halves = moved-one (splitInto bytes halves)
 
 pub join-into-one : (halves bytes : List ℕ) (r s : Moved) (x y : List ℕ)
-    → left r x ≡ joinInto halves bytes → left s y ≡ joinInto halves bytes → (r ≡ s) × (x ≡ y)
+    → filled r x ≡ joinInto halves bytes → filled s y ≡ joinInto halves bytes → (r ≡ s) × (x ≡ y)
 join-into-one halves bytes = moved-one (joinInto halves bytes)

@@ -5,7 +5,7 @@ ghost use Prim.Native.Nat.{_*_, _+_, _≤_, max};
 ghost use lib.ListN.{length};
 ghost use Rattle.ground.specs.Lists.{allAtMost};
 ghost use Rattle.halves.specs.HalfBytes.{split, join, allHalves};
-ghost use Rattle.halves.specs.Moving.{left, splitInto, joinInto};
+ghost use Rattle.halves.specs.Moving.{filled, splitInto, joinInto};
 
 // How splitting or joining ended. Nothing is written unless it is `Done`.
 pub enum Moved {
@@ -42,7 +42,7 @@ fn larger(a: u8, b: u8) -> u8
 
 // Each byte as its high half, then its low half.
 pub fn split_into(bytes: &[u8], halves: &mut [u8]) -> Moved
-    ensures { λ r. ⌜ left r (now (halves .exit)) ≡ splitInto (now (bytes .entry)) (now (halves .entry)) ⌝ }
+    ensures { λ r. ⌜ filled r (now (halves .exit)) ≡ splitInto (now (bytes .entry)) (now (halves .entry)) ⌝ }
 {
     if halves.len() != 2 * bytes.len() {
         return Moved::Misfit;
@@ -67,7 +67,7 @@ fn split_all(bytes: &[u8], halves: &mut [u8])
 
 // Each two half bytes as one byte. All of them are looked at before the first byte is written.
 pub fn join_into(halves: &[u8], bytes: &mut [u8]) -> Moved
-    ensures { λ r. ⌜ left r (now (bytes .exit)) ≡ joinInto (now (halves .entry)) (now (bytes .entry)) ⌝ }
+    ensures { λ r. ⌜ filled r (now (bytes .exit)) ≡ joinInto (now (halves .entry)) (now (bytes .entry)) ⌝ }
 {
     if halves.len() != 2 * bytes.len() {
         return Moved::Misfit;

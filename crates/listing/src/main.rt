@@ -2,6 +2,7 @@
 mod lines;
 
 use framing::Receiver;
+use libc::STDERR_FILENO;
 use libc::STDIN_FILENO;
 use libc::STDOUT_FILENO;
 use lines::Lines;
@@ -23,15 +24,19 @@ fn main() {
     list_all(&mut part, &mut memory, &mut receive, &mut reply);
 }
 
-// Part after part, to the end of the input. A proved loop has to end, and nothing says that an input does: so its turns
-// are counted, up to a number that no run reaches.
+// Part after part, to the end of the input, or to where it cannot be read, which is said on standard error. A proved loop
+// has to end, and nothing says that an input does: so its turns are counted, up to a number that no run reaches.
 fn list_all(part: &mut [u8], memory: &mut Memory, receive: &mut Buffer, reply: &mut Buffer) {
     let mut stand = Stand {
-        receiver: framing::FRESH,
+        receiver: framing::fresh(),
         place: 0,
     };
     for _ in 0..u64::MAX {
         let got = libc::read(STDIN_FILENO, part);
+        if got < 0 {
+            io::write_all(STDERR_FILENO, b"listing: standard input cannot be read\n");
+            return;
+        }
         let n = io::count(got, part);
         if n == 0 {
             return;

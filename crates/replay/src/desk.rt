@@ -24,8 +24,8 @@ pub(crate) fn fresh() -> Desk {
         length: 0,
         settings: podbox::FRESH_SETTINGS,
         lent: buffers::NEEDED,
-        receiver0: framing::FRESH,
-        receiver1: framing::FRESH,
+        receiver0: framing::fresh(),
+        receiver1: framing::fresh(),
         controller: 0,
         calls: 0,
     }

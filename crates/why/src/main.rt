@@ -3,8 +3,9 @@ mod line;
 
 ghost use Prim.Native.Nat.{_≤_};
 ghost use mathlib.Core.List.{[], _∷_};
+ghost use mathlib.Core.Path.{_≡_};
 ghost use lib.ListN.{length};
-ghost use Rattle.why.specs.Kept.{Kept};
+ghost use Rattle.why.specs.Kept.{bufferSize, Kept, Reads};
 use libc::STDERR_FILENO;
 use libc::STDIN_FILENO;
 
@@ -39,8 +40,12 @@ fn tell(message: &[u8], kept: usize) {
 }
 
 // The input is read to its end, so that whoever writes it is not cut off. A proved loop has to end, and nothing says that
-// an input does: so its turns are counted, up to a number that no run reaches.
-fn read_all(message: &mut [u8], part: &mut [u8]) -> Input {
+// an input does: so its turns are counted, up to a number that no run reaches. What is kept in a buffer of this size has
+// the reason of all that came: `reason-of-all`.
+fn read_all(message: &mut [u8], part: &mut [u8]) -> Input
+    requires { ⌜ length (now message) ≡ bufferSize ⌝ }
+    ensures { λ r. ⌜ Reads r (now (message .exit)) (now (message .entry)) ⌝ }
+{
     let mut kept = 0;
     for _ in 0..u64::MAX {
         let got = libc::read(STDIN_FILENO, part);

@@ -1,4 +1,4 @@
--- Each return that says no breaks one of `Shut`'s facts; each that says yes is idle, or stands under a status.
+-- Each return that says no breaks one of `ShutNumbers`'s facts; each that says yes is idle, or stands under a status.
 use native.Mathlib.Omega.{arith}
 use Rattle.framing.proofs.ByNumbers.{shut-not, idle-sound, under-sound}
 use Rattle.framing.proofs.soundness.sound_clear.Statement.{statement}

@@ -1,4 +1,4 @@
--- Each return that says no breaks one of `Open`'s facts; each that says yes has them all.
+-- Each return that says no breaks one of `OpenNumbers`'s facts; each that says yes has them all.
 use native.Mathlib.Omega.{arith}
 use Rattle.framing.proofs.ByNumbers.{open-not, open-sound, long-sound}
 use Rattle.framing.proofs.soundness.sound_open.Statement.{statement}

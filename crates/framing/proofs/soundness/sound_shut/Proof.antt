@@ -1,4 +1,4 @@
--- What is not as `Shut` has it is not sound; the rest is the callees' answer.
+-- What is not as `ShutNumbers` has it is not sound; the rest is the callees' answer.
 use Rattle.framing.proofs.ByNumbers.{shut-not}
 use Rattle.framing.proofs.soundness.sound_shut.Statement.{statement}
 use Rattle.framing.proofs.soundness.sound_shut.Tie as tie
