@@ -1,10 +1,12 @@
--- What a message that is handed over whole asks for, step by step: its length, its frame, its body.
-use Prim.Native.Nat.{ℕ}
+-- What a message that is handed over whole asks for, step by step: its length, its frame, its body; and that its first bytes say it.
+use Prim.Native.Nat.{ℕ, _+_}
 use mathlib.Core.Bool.{Bool, true, false, cond, not, _&&_}
 use mathlib.Core.List.{List, _∷_}
 use mathlib.Core.Path.{_≡_, refl, ap, _∙_}
 use lib.Dec.{leb, ltb}
-use lib.ListN.{length}
+use native.Mathlib.Omega.{arith}
+use lib.ListN.{length, take, length-take}
+use lib.Seq.{take-all}
 use borrow.Author.Tests.{leb-true, leb-false, le-ltb, lt-ltb}
 use Rattle.ground.specs.Tests.{test}
 use Rattle.programs.specs.Memory.{programSize}
@@ -18,7 +20,8 @@ use Rattle.sysex.specs.Forms.{longest}
 use Rattle.sysex.specs.Judging.{judgedBy, hasForm, furtherTests, bodyOrder, judgeOf}
 use Rattle.sysex.specs.Carrying.{orderDoes, refusing}
 use Rattle.podbox.specs.Messages.{messageDoes}
-use Rattle.podbox.specs.Whole.{isFramed, bodyOf, messageOrder, handedDoes}
+use Rattle.podbox.specs.Settings.{freshSettings}
+use Rattle.podbox.specs.Whole.{isFramed, bodyOf, messageOrder, handedDoes, reasonOf}
 
 -- at most so many is not over so many
 not-over : (m n : ℕ) → leb m n ≡ not (ltb n m)
@@ -54,3 +57,19 @@ module _ (settings : Settings) (message : List ℕ) where
       steps true framed = refl
       steps false true = refl
       steps false false = refl
+
+-- The first 5,194 bytes say it: one byte more than the longest message is enough to judge by.
+pub first-bytes : (message : List ℕ) → reasonOf (take (longest programSize + 1) message) ≡ reasonOf message
+first-bytes message = go (leb (length message) (longest programSize + 1)) refl
+  where
+    go : (t : Bool) → leb (length message) (longest programSize + 1) ≡ t → reasonOf (take (longest programSize + 1) message) ≡ reasonOf message
+    go true h = ap reasonOf (take-all (longest programSize + 1) message (leb-true _ _ h))
+    go false h =
+        let many = leb-false (length message) (longest programSize + 1) h in
+        let kept = length-take (longest programSize + 1) message in
+        rw (
+          message-order freshSettings (take (longest programSize + 1) message),
+          message-order freshSettings message,
+          lt-ltb (longest programSize) (length message) (omega arith),
+          lt-ltb (longest programSize) (length (take (longest programSize + 1) message)) (omega arith),
+        )

@@ -56,7 +56,7 @@ fn byte_on(
     let took = taken(before, socket, byte, memory, receive0, receive1, reply);
     let desk = desk::with_receiver(before, socket, took.receiver);
     let answer = took.answer;
-    if sysex::number_of(answer) != 0 {
+    if sysex::answer_number(answer) != 0 {
         print::answered(b'S', desk, answer, memory, receive0, receive1, reply);
     }
     desk::counted(desk)

@@ -25,8 +25,8 @@ pub(crate) fn answered(
 ) {
     io::write_all(STDOUT_FILENO, &[letter]);
     field(desk.calls);
-    field(sysex::number_of(answer) as u64);
-    field(sysex::length_of(answer) as u64);
+    field(sysex::answer_number(answer) as u64);
+    field(sysex::answer_length(answer) as u64);
     field(digest(memory));
     field(digest(reply));
     field(digest(receive0));

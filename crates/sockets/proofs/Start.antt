@@ -9,7 +9,8 @@ use lib.Seq.{length-take-le}
 use borrow.Author.Tests.{ne-eqb}
 use Rattle.framing.specs.declared.Receiver.{Receiver}
 use Rattle.framing.specs.Receiver.{soundOf}
-use Rattle.framing.proofs.Stands.{Stands, idle, under, holding, opened, overlong, sound-stands}
+use Rattle.framing.specs.Standing.{Stands, idle, under, holding, opened, overlong}
+use Rattle.framing.proofs.Stands.{sound-stands}
 use Rattle.sockets.specs.Demand.{framerOf}
 use Rattle.sockets.proofs.Agree.{Agrees, none, half, fits, past, awaits}
 

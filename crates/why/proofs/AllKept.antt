@@ -5,7 +5,7 @@ use mathlib.Core.Path.{_≡_, refl, ap, _∙_}
 use native.Mathlib.Omega.{arith}
 use lib.ListN.{length, take, length-append}
 use Rattle.podbox.specs.Whole.{reasonOf}
-use Rattle.podbox.proofs.Reasons.{first-bytes}
+use Rattle.podbox.proofs.Orders.{first-bytes}
 use Rattle.why.specs.Kept.{bufferSize, Kept, Steps, done, next}
 use Rattle.why.proofs.FirstBytes.{take-again, none-yet}
 

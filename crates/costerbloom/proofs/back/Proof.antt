@@ -1,18 +1,26 @@
 -- The tests are those of `memoryBack`, in its order.
+use denote.Ref.{now}
+use Prim.Native.Nat.{ℕ, _+_, _-_}
+use mathlib.Core.Path.{ap, _∙_}
+use lib.ListN.{take, drop}
+use borrow.Author.Tests.{le-leb}
 use Rattle.ground.proofs.Tests.{tests}
+use Rattle.controls.specs.Showing.{backOf}
 use Rattle.costerbloom.specs.Numbers.{memoryBack}
 use borrow.Author.Needs.{needs}
 use Rattle.costerbloom.proofs.back.Statement.{statement}
 use Rattle.costerbloom.proofs.back.Tie as tie
 
-pub back-spec : {M : Type 1} → statement M
+returns : tie.Need-returns
 unfolding memoryBack
+returns c = search tests
+
+returns-2 : tie.Need-returns-2
+unfolding memoryBack
+returns-2 c = ?
+
+pub back-spec : {M : Type 1} → statement M
 back-spec =
     tie.close
     (tie.spec
-    (λ c. search tests)
-    (λ c. search needs)
-    (λ c. search needs)
-    (λ c. search needs)
-    (λ c κs. search needs)
-    (λ c. search (tests, c .show-back .ensures)))
+    returns)
