@@ -23,7 +23,7 @@ pub store-length : (r : Row) (value : ℕ) (edit : List ℕ) → length (storeRo
 unfolding storeRow
 store-length r value edit = length-put (r .width) (r .place) _ edit
 
--- the tests of showing back, which applying has too, hold exactly where row and effect allow
+-- the tests of showing back, which applying has too, hold exactly where buffer, row and effect allow
 module _ (controller : ℕ) (edit : List ℕ) where
   pub allowed : AllHold (backTests (rowOf controller) edit) → Allowed controller edit
   allowed a =

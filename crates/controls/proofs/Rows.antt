@@ -17,12 +17,13 @@ use Rattle.controls.specs.Meaning.{Outside}
 use Rattle.controls.specs.Private.{Sane}
 use Rattle.controls.proofs.Bytes.{above}
 
--- a test that each entry passes, and `other` at any key, passes at what is found
+-- a test that each entry passes
 abbrev allPass : {A : Type 0} → (ℕ → A → Bool) → List (Entry A) → Bool
 allPass test [] = true
 allPass test (e ∷ es) = test (e .key) (e .value) && allPass test es
 
 module _ {A : Type 0} (other : A) where
+  -- passes at what is found, if `other` passes at any key
   found : (test : ℕ → A → Bool) → ((key : ℕ) → test key other ≡ true) → (es : List (Entry A)) → allPass test es ≡ true
       → (key : ℕ) → test key (find other key es) ≡ true
   found test o [] t key = o key
@@ -41,7 +42,7 @@ module _ {A : Type 0} (other : A) where
       let p = not-found key es (Known × (key ≡ e .key → ⊥)) m in
       (p .0 .0, rw (ne-eqb key (e .key) (p .0 .1)) (p .1))
 
--- Facts that hold of every row, each by one test that antt computes over the list, and of the row that is not in it.
+-- Facts of every row, each by one test that antt computes over the list and the row that is not in it.
 abbrev everyRow : (Row → Bool) → Bool
 everyRow test = test unlisted && allPass (λ _. test) rows
 

@@ -24,6 +24,7 @@ Outside width place k = (k < place) ⊎ (place + width ≤ k)
 abbrev pub Flanger : ℕ → Type 0
 Flanger byte46 = (byte46 ≡ 1) ⊎ ((byte46 ≡ 3) ⊎ ((byte46 ≡ 13) ⊎ (byte46 ≡ 15)))
 
+-- a controller of the rotary
 abbrev pub RotaryMove : ℕ → Type 0
 RotaryMove controller = (controller ≡ 55) ⊎ ((controller ≡ 56) ⊎ (controller ≡ 57))
 

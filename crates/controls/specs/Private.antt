@@ -5,7 +5,7 @@ use Rattle.programs.specs.Memory.{programSize}
 use Rattle.controls.specs.declared.Row.{Row}
 use Rattle.controls.specs.Table.{rowOf}
 
--- a row of the table; so its field lies in a program, is three bytes wide at most, and takes data bytes
+-- the row of some controller; so its field lies in a program, is three bytes wide at most, and takes data bytes
 pub record Sane (r : Row) : Type 0 where
   pub inside : r .place + r .width ≤ programSize
   pub narrow : r .width ≤ 3

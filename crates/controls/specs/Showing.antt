@@ -27,7 +27,7 @@ shownOf r stored =
     (cond (eqb (r .formula) m-lower) (sevenBits stored (mOf stored % 128))
     (smallest r stored (r .highest + 1) 0))
 
--- "Tests: 30, 17, 19, 40."
+-- "Tests: 30, 17, 19, 40." The last is what `shownOf` answers where no value gives the number
 abbrev pub backTests : Row → List ℕ → List (Test ℕ)
 backTests r edit = editTest edit ∷ listedTest r ∷ selectedTest r edit ∷ []
 
