@@ -17,10 +17,22 @@ returns c = search tests
 
 returns-2 : tie.Need-returns-2
 unfolding memoryBack
-returns-2 c = ?
+returns-2 c =
+    let a = c .before .before .before .before .before .args in
+    rw (le-leb _ _ (c .before .before .before .if1 .left))
+    (c .show-back .ensures
+    ∙ ap (λ (place : ℕ). backOf (a .controller) (take (place + 72 - place) (drop place (now (a .memory))))) (c .before .before .edit-place .ensures))
 
 pub back-spec : {M : Type 1} → statement M
 back-spec =
     tie.close
     (tie.spec
-    returns)
+    returns
+    (λ c. search needs)
+    (λ c κs. search needs)
+    (λ c. search needs)
+    (λ c. search needs)
+    (λ c. search needs)
+    (λ c. search needs)
+    (λ c κs. search needs)
+    returns-2)
