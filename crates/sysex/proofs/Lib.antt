@@ -2,7 +2,6 @@ pub mod Reading
 pub mod Writing
 pub mod Parts
 pub mod Judged
-pub mod Accepts
 pub mod Understands
 pub mod Numbered
 pub mod OneResult

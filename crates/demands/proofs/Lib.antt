@@ -1,0 +1,4 @@
+pub mod Accepts
+pub mod Forms
+pub mod Carried
+pub mod Exactly
