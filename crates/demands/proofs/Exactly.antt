@@ -4,14 +4,14 @@ use Prim.Native.Nat.{ℕ}
 use mathlib.Core.Bool.{true}
 use mathlib.Core.List.{List, [], _∷_}
 use mathlib.Core.Logic.{_⊎_, inl, inr, ⊎-elim}
-use mathlib.Core.Path.{_≡_, refl, sym, ap, _∙_}
+use mathlib.Core.Path.{_≡_, refl, sym, ap, subst, _∙_}
 use native.Mathlib.Omega.{arith}
 use lib.Dec.{ltb}
+use borrow.Author.Tests.{leb-true}
 use lib.ListN.{length, drop, take}
 use Rattle.ground.specs.Lists.{written}
 use Rattle.ground.specs.Tests.{AllHold}
 use Rattle.ground.specs.Calls.{outcome, leaves}
-use Rattle.ground.proofs.InOrder.{tested-passed}
 use Rattle.ground.proofs.Tests.{by}
 use Rattle.halves.specs.HalfBytes.{join}
 use Rattle.programs.specs.Memory.{programSize}
@@ -20,13 +20,13 @@ use Rattle.framing.specs.declared.Receiver.{Receiver}
 use Rattle.framing.specs.declared.Event.the-variants as event
 use Rattle.framing.specs.Bytes.{stepOf}
 use Rattle.sockets.specs.Box.{lent, took}
-use Rattle.sockets.specs.Promise.{stepDoes, byteOf, directOf}
+use Rattle.sockets.specs.Promise.{stepDoes}
 use Rattle.sysex.specs.declared.Settings.{Settings}
 use Rattle.sysex.specs.declared.Order.{Order}
 use Rattle.sysex.specs.declared.Answer.the-variants.{Stored, Sent}
-use Rattle.sysex.specs.Forms.{typeFor, dataPlace, longest, identityReply, ended}
+use Rattle.sysex.specs.Forms.{typeFor, dataPlace, longest, requestBody, dumpBody, identityReply, ended}
 use Rattle.sysex.specs.Judging.{judgeOf}
-use Rattle.sysex.specs.Carrying.{Outcome, orderDoes, bodyDoes, sending, answering}
+use Rattle.sysex.specs.Carrying.{Outcome, refusing, orderDoes, bodyDoes, sending, answering}
 use Rattle.sysex.specs.Formats.{IsDump, IsRequest, IsIdentity}
 use Rattle.sysex.proofs.Understands as understood
 use Rattle.sysex.proofs.Understands.{Meant, identity, asked, dumped, meant}
@@ -37,8 +37,9 @@ use Rattle.podbox.proofs.Frames.{frame-body, framed-is}
 use Rattle.podbox.proofs.Orders.{handed-does}
 use Rattle.podbox.proofs.Taking.{sender}
 use Rattle.demands.specs.Exactly.{Exactly}
+use Rattle.demands.proofs.Passed.{take-passed, whole-passed}
 use Rattle.demands.proofs.Accepts.{dump-judged, request-judged, identity-judged}
-use Rattle.demands.proofs.Forms.{store-does, send-does, dump-data, dump-opens, request-opens, identity-opens, ended-does}
+use Rattle.demands.proofs.Forms.{Opens, store-does, send-does, dump-data, dump-opens, request-opens, identity-opens, ended-does}
 
 module _ (settings : Settings) (player : ℕ) (held : Held) where
   abbrev Does : List ℕ → Outcome
@@ -47,20 +48,104 @@ module _ (settings : Settings) (player : ℕ) (held : Held) where
   -- every dump, request and identity request is carried out
   dump-does : (t : Target) (bytes body : List ℕ) → IsDump programSize t bytes body → Does body ≡ outcome Stored (storeIn programSize player t bytes held) []
   dump-does t bytes body d =
-      rw (d .form, dump-judged programSize settings bytes (d .whole-bytes) t (d .there) (d .count), store-does settings player t (body) held, dump-data t bytes)
+      rw (d .form, dump-judged programSize settings bytes (d .whole-bytes) t (d .there) (d .count), store-does settings player t (dumpBody t bytes) held, dump-data t bytes)
 
   request-does : (t : Target) (body : List ℕ) → IsRequest t body → Does body ≡ answering programSize player t held
-  request-does t body q = rw (q .form, request-judged programSize settings t (q .there)) (send-does settings player t body held)
+  request-does t body q = rw (q .form, request-judged programSize settings t (q .there)) (send-does settings player t (requestBody t) held)
 
   identity-does : (cc : ℕ) (body : List ℕ) → IsIdentity settings cc body → Does body ≡ sending (identityReply settings cc) held
   unfolding orderDoes
   identity-does cc body i = rw (i .form, identity-judged programSize settings cc (i .low) (i .ours))
 
   -- and nothing else is
-  by-order : (body : List ℕ) (o : Order) → Meant programSize settings body o → orderDoes programSize settings player o body held .answer ≡ Stored
+  stored-order : (body : List ℕ) (o : Order) → Meant programSize settings body o → orderDoes programSize settings player o body held .answer ≡ Stored
       → (t : Target) × (bytes : List ℕ) × IsDump programSize t bytes body
   unfolding orderDoes
-  by-order body o (identity cc i) e = let z : _≡_ {A = ℕ} 0 1 = cc in absurd (omega arith)
-  by-order body o (asked t q) e = let z : _≡_ {A = ℕ} 0 1 = cc in absurd (omega arith)
-  by-order body o (dumped t d) e = (t, join (drop (dataPlace (typeFor t)) body), d)
-  by-order body o (understood.refused check) e = let z : _≡_ {A = ℕ} 0 1 = cc in absurd (omega arith)
+  stored-order body o (identity channel i) e = let z : _≡_ {A = ℕ} 0 1 = cc in absurd (omega arith)
+  stored-order body o (asked t q) e = let f = rw (send-does settings player t body held) at e in let z : _≡_ {A = ℕ} 0 1 = cc in absurd (omega arith)
+  stored-order body o (dumped t d) e = (t, join (drop (dataPlace (typeFor t)) body), d)
+  stored-order body o (understood.refused check) e = let z : _≡_ {A = ℕ} 0 1 = cc in absurd (omega arith)
+
+  answered-order : (count : ℕ) (body : List ℕ) (o : Order) → Meant programSize settings body o → orderDoes programSize settings player o body held .answer ≡ Sent count
+      → ((t : Target) × IsRequest t body) ⊎ ((cc : ℕ) × IsIdentity settings cc body)
+  unfolding orderDoes
+  answered-order count body o (identity channel i) e = inr (channel, i)
+  answered-order count body o (asked t q) e = inl (t, q)
+  answered-order count body o (dumped t d) e = let f = rw (store-does settings player t body held) at e in let z : _≡_ {A = ℕ} 0 1 = cc in absurd (omega arith)
+  answered-order count body o (understood.refused check) e = let z : _≡_ {A = ℕ} 0 1 = cc in absurd (omega arith)
+
+  -- one body, whichever of them says that it is the message's
+  pub body-exactly : (body : List ℕ) → Exactly settings player held (λ b. b ≡ body) (Does body)
+  body-exactly body = record {
+    stored = (
+      (λ e. let d = stored-order body (judgeOf programSize settings body) (meant programSize settings body) e in (body, refl, d .0, d .1, d .2)),
+      (λ x. ap (λ (o : Outcome). o .answer) (ap Does (sym (x .1)) ∙ dump-does (x .2) (x .3) (x .0) (x .4))),
+    );
+    named = λ b e t bytes d. ap Does (sym e) ∙ dump-does t bytes b d;
+    answered = (
+      (λ x. (body, refl, answered-order (x .0) body (judgeOf programSize settings body) (meant programSize settings body) (x .1))),
+      (λ x. ⊎-elim
+          (λ q. (_, ap (λ (o : Outcome). o .answer) (ap Does (sym (x .1)) ∙ request-does (q .0) (x .0) (q .1))))
+          (λ i. (_, ap (λ (o : Outcome). o .answer) (ap Does (sym (x .1)) ∙ identity-does (i .0) (x .0) (i .1)))) (x .2)),
+    );
+    dumped = λ b e t q. ap Does (sym e) ∙ request-does t b q;
+    identified = λ b e cc i. ap Does (sym e) ∙ identity-does cc b i;
+  }
+
+  -- a message that is handed over whole is refused, or it is a body and F7, and does what that does
+  by-frame : (message : List ℕ) (P : Outcome → Type 0) → ((number : ℕ) → P (refusing held number)) → ((body : List ℕ) → message ≡ ended body → P (Does body))
+      → P (handedDoes settings player message held)
+  unfolding messageDoes
+  by-frame message P when-refused when-framed =
+      rw (handed-does settings message player held)
+      (by P (ltb (longest programSize) (length message)) _ _ (λ _. when-refused 10)
+      (λ _. by P (isFramed message) _ _
+      (λ t. let f = framed-is message t in
+      let body : List ℕ = 0xF0 ∷ f .0 in
+      let same : bodyOf message ≡ body = ap bodyOf (f .1) ∙ frame-body (f .0) in
+      rw same (when-framed body (f .1)))
+      (λ _. when-refused 11)))
+
+  pub whole-exactly : (message : List ℕ) → Exactly settings player held (λ body. message ≡ ended body) (handedDoes settings player message held)
+  whole-exactly message =
+      let as-body : (body : List ℕ) → message ≡ ended body → Opens body → handedDoes settings player message held ≡ Does body
+      = λ body e o. ap (λ (m : List ℕ). handedDoes settings player m held) e ∙ ended-does settings player body held o in
+      record {
+        stored = (
+          by-frame message
+              (λ (o : Outcome). o .answer ≡ Stored → (body : List ℕ) × (message ≡ ended body) × (t : Target) × (bytes : List ℕ) × IsDump programSize t bytes body)
+              (λ number e. let z : _≡_ {A = ℕ} 0 1 = cc in absurd (omega arith))
+              (λ body f e. let x = body-exactly body .stored .0 e in (body, f, x .2, x .3, subst (λ (b : List ℕ). IsDump programSize (x .2) (x .3) b) (x .1) (x .4))),
+          (λ x. ap (λ (o : Outcome). o .answer) (as-body (x .0) (x .1) (dump-opens (x .2) (x .3) (x .0) (x .4)) ∙ dump-does (x .2) (x .3) (x .0) (x .4))),
+        );
+        named = λ body e t bytes d. as-body body e (dump-opens t bytes body d) ∙ dump-does t bytes body d;
+        answered = (
+          (λ x. by-frame message
+              (λ (o : Outcome). o .answer ≡ Sent (x .0) → (body : List ℕ) × (message ≡ ended body) × (((t : Target) × IsRequest t body) ⊎ ((cc : ℕ) × IsIdentity settings cc body)))
+              (λ number e. let z : _≡_ {A = ℕ} 0 1 = cc in absurd (omega arith))
+              (λ body f e. (body, f, answered-order (x .0) body (judgeOf programSize settings body) (meant programSize settings body) e)) (x .1)),
+          (λ x. ⊎-elim
+              (λ q. (_, ap (λ (o : Outcome). o .answer) (as-body (x .0) (x .1) (request-opens (q .0) (x .0) (q .1)) ∙ request-does (q .0) (x .0) (q .1))))
+              (λ i. (_, ap (λ (o : Outcome). o .answer) (as-body (x .0) (x .1) (identity-opens settings (i .0) (x .0) (i .1)) ∙ identity-does (i .0) (x .0) (i .1)))) (x .2)),
+        );
+        dumped = λ body e t q. as-body body e (request-opens t body q) ∙ request-does t body q;
+        identified = λ body e channel i. as-body body e (identity-opens settings channel body i) ∙ identity-does channel body i;
+      }
+
+-- Exactly, at the calls of the box, where no test of the call fails. The panel's:
+pub whole-call : (settings : Settings) (message : List ℕ) (held : Held) (reply : List ℕ) → AllHold (wholeTests settings held reply)
+    → (let o = handedDoes settings panel message held in
+    (wholeOf settings message held reply ≡ leaves o reply) × Exactly settings panel held (λ body. message ≡ ended body) o)
+whole-call settings message held reply all = (whole-passed settings message held reply all, whole-exactly settings panel held message)
+
+-- and the byte's, on a socket in any sound state, that finishes a SysEx
+pub byte-call : (settings : Settings) (socket : ℕ) (r : Receiver) (byte : ℕ) (held : Held) (receive reply : List ℕ) (count : ℕ)
+    → AllHold (takeTests settings socket (lent r held receive reply)) → stepOf limit r byte .event ≡ event.SysEx count
+    → (let o = bodyDoes programSize settings socket (take count receive) held in
+    (takeOf settings socket r byte held receive reply ≡ took (stepOf limit r byte .receiver) (o .answer) (o .held) receive (written (o .sent) reply))
+    × Exactly settings socket held (λ body. body ≡ take count receive) o)
+unfolding stepDoes messageDoes
+byte-call settings socket r byte held receive reply count all e = (
+  take-passed settings socket r byte held receive reply all ∙ (rw (e, sender socket (leb-true socket 1 (all .1 .1 .1 .0)))),
+  body-exactly settings socket held (take count receive),
+)

@@ -1,6 +1,6 @@
 -- The order of tests, said once for any list of them: a refusal is that of the test that fails where every earlier one holds.
 use mathlib.Core.Bool.{Bool, true, false, cond}
-use mathlib.Core.List.{List, [], _∷_, map}
+use mathlib.Core.List.{List, [], _∷_, _++_, map}
 use mathlib.Core.Logic.{_⊎_, inl, inr, ⊎-elim}
 use mathlib.Core.Path.{_≡_, refl, sym, ap, subst, _∙_}
 use Rattle.ground.specs.Tests.{Test, tested, AllHold, FirstToFail, here, later, renamed}
@@ -62,3 +62,16 @@ pub tested-renamed : {Name Other A : Type 0} (f : Name → Other) (ts : List (Te
     → tested (map (renamed f) ts) failed x ≡ tested ts (λ name. failed (f name)) x
 tested-renamed f [] failed x = refl
 tested-renamed f (t ∷ ts) failed x = ap (λ y. cond (t .holds) y (failed (f (t .name)))) (tested-renamed f ts failed x)
+
+-- some tests, and others behind them
+pub tested-append : {Name A : Type 0} (ts us : List (Test Name)) (failed : Name → A) (x : A) → tested (ts ++ us) failed x ≡ tested ts failed (tested us failed x)
+tested-append [] us failed x = refl
+tested-append (t ∷ ts) us failed x = ap (λ y. cond (t .holds) y (failed (t .name))) (tested-append ts us failed x)
+
+-- what stands behind tests matters where all of them hold
+pub tested-when : {Name A : Type 0} (ts : List (Test Name)) (failed : Name → A) (x y : A) → (AllHold ts → x ≡ y) → tested ts failed x ≡ tested ts failed y
+tested-when {Name} {A} ts failed x y e =
+    ⊎-elim
+    (λ a. tested-passed ts failed x a ∙ e a ∙ sym (tested-passed ts failed y a))
+    (λ (f : (name : Name) × FirstToFail ts name). tested-failed failed x (f .1) ∙ sym (tested-failed failed y (f .1)))
+    (all-or-first ts)

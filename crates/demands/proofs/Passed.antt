@@ -1,0 +1,52 @@
+-- What a call does where none of its tests fails, and that a test that fails is one of 30, 31 and 32.
+use Prim.Native.Nat.{ℕ, _≤_}
+use mathlib.Core.List.{List}
+use mathlib.Core.Path.{_≡_, ap}
+use native.Mathlib.Omega.{arith}
+use Rattle.ground.specs.Tests.{AllHold, FirstToFail}
+use Rattle.ground.specs.Calls.{left, leaves}
+use Rattle.ground.proofs.InOrder.{Names, first-named, tested-cases, tested-passed}
+use Rattle.programs.specs.Held.{Held}
+use Rattle.framing.specs.declared.Receiver.{Receiver}
+use Rattle.framing.specs.Bytes.{stepOf}
+use Rattle.sockets.specs.Box.{lent, took}
+use Rattle.sockets.specs.Promise.{socketOf, stepDoes, byteOf, directOf}
+use Rattle.sysex.specs.declared.Settings.{Settings}
+use Rattle.sysex.specs.Carrying.{Left}
+use Rattle.sysex.specs.Numbers.{refused}
+use Rattle.podbox.specs.Whole.{handedDoes}
+use Rattle.podbox.specs.Box.{Took, limit, panel, boxRules, plainAnswer, takeTests, wholeTests, takeOf, wholeOf}
+
+module _ (settings : Settings) (socket : ℕ) (r : Receiver) (byte : ℕ) (held : Held) (receive reply : List ℕ) where
+  abbrev taken : Took
+  taken = stepDoes (boxRules settings) (socketOf socket) byte (lent r held receive reply) (stepOf limit r byte)
+
+  pub take-passed : AllHold (takeTests settings socket (lent r held receive reply)) → takeOf settings socket r byte held receive reply ≡ taken
+  unfolding byteOf
+  take-passed = tested-passed (takeTests settings socket (lent r held receive reply)) (λ number. took r (plainAnswer number) held receive reply) taken
+
+  -- whatever holds of a call that is turned away, and of one that is taken, holds of the call
+  pub take-cases : (P : Took → Type 0) → ((number : ℕ) → 30 ≤ number → number ≤ 32 → P (took r (refused number) held receive reply))
+      → (AllHold (takeTests settings socket (lent r held receive reply)) → P taken) → P (takeOf settings socket r byte held receive reply)
+  unfolding byteOf
+  take-cases P away when-taken =
+      let Away : ℕ → Type 0 = λ number. P (took r (plainAnswer number) held receive reply) in
+      let thirty = away 30 (omega arith) (omega arith) in
+      let last = away 32 (omega arith) (omega arith) in
+      tested-cases P (takeTests settings socket (lent r held receive reply)) (λ number. took r (plainAnswer number) held receive reply) taken when-taken
+      (λ number f. first-named Away f
+      ((λ _. thirty), (λ _. ((λ _. thirty), (λ _. ((λ _. thirty), (λ _. ((λ _. away 31 (omega arith) (omega arith)), (λ _. ((λ _. last), (λ _. ((λ _. last), (λ _. tt)))))))))))))
+
+module _ (settings : Settings) (message : List ℕ) (held : Held) (reply : List ℕ) where
+  pub whole-passed : AllHold (wholeTests settings held reply) → wholeOf settings message held reply ≡ leaves (handedDoes settings panel message held) reply
+  unfolding directOf
+  whole-passed = tested-passed (wholeTests settings held reply) (λ number. left (plainAnswer number) held reply) (leaves (handedDoes settings panel message held) reply)
+
+  pub whole-cases : (P : Left → Type 0) → ((number : ℕ) → 30 ≤ number → number ≤ 32 → P (left (refused number) held reply))
+      → (AllHold (wholeTests settings held reply) → P (leaves (handedDoes settings panel message held) reply)) → P (wholeOf settings message held reply)
+  unfolding directOf
+  whole-cases P away when-taken =
+      let Away : ℕ → Type 0 = λ number. P (left (plainAnswer number) held reply) in
+      let thirty = away 30 (omega arith) (omega arith) in
+      tested-cases P (wholeTests settings held reply) (λ number. left (plainAnswer number) held reply) (leaves (handedDoes settings panel message held) reply) when-taken
+      (λ number f. first-named Away f ((λ _. thirty), (λ _. ((λ _. thirty), (λ _. ((λ _. away 32 (omega arith) (omega arith)), (λ _. tt)))))))
