@@ -4,3 +4,6 @@ pub mod Forms
 pub mod Carried
 pub mod Exactly
 pub mod InOrder
+pub mod EveryCall
+pub mod Reasons
+pub mod Sockets

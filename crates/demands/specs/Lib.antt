@@ -1,2 +1,4 @@
+pub mod Answered
 pub mod Exactly
 pub mod Order
+pub mod Reasons

@@ -1,0 +1,105 @@
+-- "The reason must be true": what is said of a message is what a fresh box makes of it.
+use Prim.Native.Nat.{ℕ, _-_, _≤_, _<_}
+use mathlib.Core.Bool.{Bool, true, false, cond, _&&_, true≢false}
+use mathlib.Core.List.{List}
+use mathlib.Core.Path.{_≡_, refl, ap, _∙_}
+use native.Mathlib.Omega.{arith}
+use lib.Dec.{eqb, leb}
+use lib.ListN.{length, getD, length-take, length-replicate}
+use borrow.Author.Tests.{leb-true, leb-false, le-leb, eqb-true, eqb-false, eq-eqb}
+use Rattle.ground.specs.Tests.{FirstToFail}
+use Rattle.ground.specs.Calls.{leaves}
+use Rattle.ground.proofs.InOrder.{Names, first-named, tested-cases}
+use Rattle.ground.proofs.Tests.{both, by}
+use Rattle.programs.specs.Memory.{programSize, memorySize, lastProgram}
+use Rattle.programs.specs.Held.{Held}
+use Rattle.sysex.specs.declared.Check.{Check}
+use Rattle.sysex.specs.declared.Order.the-variants.{Refused}
+use Rattle.sysex.specs.Forms.{opcodeOf, typeOf, programOf, request, dump, program, all, bodyLength, wholeLength, longest, isIdentity, isOurChannel}
+use Rattle.sysex.specs.Numbers.{answerNumber, orderNumber}
+use Rattle.sysex.specs.Judging.{hasLength, hasProgram, formTests, furtherTests, bodyOrder}
+use Rattle.sysex.specs.Carrying.{Left, orderDoes}
+use Rattle.sysex.proofs.Numbered.{passed-done, does-number}
+use Rattle.podbox.specs.Settings.{isValid, freshSettings, freshHeld}
+use Rattle.podbox.specs.Whole.{bodyOf, messageTests, messageOrder, reasonOf}
+use Rattle.podbox.specs.Box.{panel, wholeOf}
+use Rattle.demands.specs.Reasons.{Because, fails, passes, Missed, most, ours, known, whole, numbered, versioned, halved, channelled}
+use Rattle.demands.proofs.Passed.{whole-passed}
+
+because : (message : List ℕ) → Because message (reasonOf message)
+unfolding messageOrder
+because message =
+    tested-cases (Because message) (messageTests freshSettings message) Refused (bodyOrder (bodyOf message))
+    (λ a. passes (bodyOrder (bodyOf message)) a (passed-done (bodyOf message)))
+    fails
+
+fresh-valid : isValid freshSettings ≡ true
+unfolding isValid freshSettings
+fresh-valid = refl
+
+-- What is said is what is done: a box with these settings does what the reason names, whatever it holds.
+pub reason-done : (message : List ℕ) (held : Held) (reply : List ℕ) → memorySize programSize ≤ length (held .memory) → longest programSize ≤ length reply
+    → wholeOf freshSettings message held reply ≡ leaves (orderDoes programSize freshSettings panel (reasonOf message) (bodyOf message) held) reply
+reason-done message held reply m r = whole-passed freshSettings message held reply (le-leb _ _ m, (le-leb _ _ r, (fresh-valid, tt)))
+
+-- "and a fresh box set as the listing program's, handed the message whole, returns that number"
+pub reason-true : (message reply : List ℕ) → longest programSize ≤ length reply
+    → Because message (reasonOf message) × (answerNumber (wholeOf freshSettings message freshHeld reply .answer) ≡ orderNumber (reasonOf message))
+unfolding freshHeld
+reason-true message reply r = (
+  because message,
+  ap (λ (l : Left). answerNumber (l .answer)) (reason-done message freshHeld reply (omega (arith, length-replicate {A = ℕ} (memorySize programSize) 0)) r)
+      ∙ does-number programSize freshSettings panel (bodyOf message) freshHeld (reasonOf message),
+)
+
+-- a program that is not there, and a channel that is not ours
+above : (type number : ℕ) → hasProgram type number ≡ false → (type ≡ program) × (lastProgram < number)
+unfolding hasProgram
+above type number = go (eqb type program) refl
+  where
+    go : (t : Bool) → eqb type program ≡ t → cond t (leb number lastProgram) true ≡ false → (type ≡ program) × (lastProgram < number)
+    go true s e = (eqb-true type program s, leb-false number lastProgram e)
+    go false s e = absurd (true≢false e)
+
+other : (channel : ℕ) → isOurChannel freshSettings channel ≡ false → (channel ≡ 0 → ⊥) × (channel ≡ 0x7F → ⊥)
+unfolding isOurChannel freshSettings
+other channel e = (λ z. absurd (true≢false (rw (eq-eqb channel 0 z) at e)), λ z. absurd (true≢false (rw z at e)))
+
+module _ (message : List ℕ) where
+  abbrev body : List ℕ
+  body = bodyOf message
+
+  whole-missed : hasLength programSize body ≡ false → length message ≡ wholeLength programSize (opcodeOf body) (typeOf body) → ⊥
+  whole-missed e l = eqb-false (length body) (bodyLength programSize (opcodeOf body) (typeOf body)) e (omega (arith, length-take (length message - 1) message))
+
+  is-dump : opcodeOf body ≤ dump → eqb (opcodeOf body) request ≡ false → opcodeOf body ≡ dump
+  is-dump small d = let some = eqb-false (opcodeOf body) request d in omega arith
+
+  form-missed : Names (Missed message) (formTests programSize body)
+  form-missed = (
+    known,
+    (λ k.
+        let fields = both (leb (opcodeOf body) 1) (leb (typeOf body) 2) (both (leb 7 (length body)) (leb (opcodeOf body) 1 && leb (typeOf body) 2) k .1) in
+        let opcode = leb-true (opcodeOf body) dump (fields .0) in
+        let type = leb-true (typeOf body) all (fields .1) in (
+          (λ e. whole opcode type (whole-missed e)),
+          (λ _. (
+            (λ e. let a = above (typeOf body) (programOf body) e in numbered opcode (a .0) (a .1)),
+            (λ _. by (Names (Missed message)) (eqb (opcodeOf body) request) _ _ (λ _. tt)
+                (λ d. ((λ e. versioned (is-dump opcode d) type (eqb-false _ 0 e)), (λ _. (halved (is-dump opcode d) type, (λ _. tt)))))),
+          )),
+        )),
+  )
+
+  pub missed : (check : Check) → FirstToFail (messageTests freshSettings message) check → Missed message check
+  unfolding furtherTests freshSettings
+  missed check first =
+      first-named (Missed message) first (
+        (λ e. most (leb-false (length message) (longest programSize) e)),
+        (λ _. (
+          ours,
+          (λ _. by (Names (Missed message)) (isIdentity body) _ _
+              (λ i. ((λ e. let o = other (getD body 2 0) e in channelled i (o .0) (o .1)), (λ _. tt)))
+              (λ _. form-missed)),
+        )),
+      )
