@@ -3,7 +3,10 @@ pub mod Accepts
 pub mod Forms
 pub mod Carried
 pub mod Exactly
+pub mod ComesBack
 pub mod InOrder
 pub mod EveryCall
+pub mod Byte48
 pub mod Reasons
 pub mod Sockets
+pub mod Fed

@@ -2,3 +2,4 @@ pub mod Answered
 pub mod Exactly
 pub mod Order
 pub mod Reasons
+pub mod Byte48

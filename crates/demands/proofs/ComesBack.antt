@@ -1,0 +1,46 @@
+-- "taking dumps in and giving them out": after a dump was stored the request of the same type and program is answered by that very dump.
+use Prim.Native.Nat.{ℕ, _≤_}
+use mathlib.Core.List.{List}
+use mathlib.Core.Path.{_≡_, refl, sym, ap, _∙_}
+use native.Mathlib.Omega.{arith}
+use lib.ListN.{length}
+use Rattle.ground.specs.Tests.{AllHold}
+use Rattle.ground.specs.Calls.{leaves}
+use Rattle.programs.specs.Memory.{programSize, memorySize}
+use Rattle.programs.specs.Held.{Held, Target, placeFor, countFor, bytesIn, storeIn}
+use Rattle.programs.proofs.Parts.{part-put}
+use Rattle.sockets.specs.Framer.{SysEx}
+use Rattle.sysex.specs.declared.Settings.{Settings}
+use Rattle.sysex.specs.Forms.{requestBody, dumpBody, ended}
+use Rattle.sysex.specs.Carrying.{Outcome, bodyDoes, sending, answering}
+use Rattle.sysex.specs.Formats.{There, IsDump}
+use Rattle.podbox.specs.Messages.{messageDoes}
+use Rattle.podbox.specs.Whole.{handedDoes}
+use Rattle.demands.proofs.Forms.{named-inside, dump-opens, request-opens, ended-does}
+use Rattle.demands.proofs.Exactly.{body-exactly}
+
+module _ (settings : Settings) (player : ℕ) (held : Held) (m : memorySize programSize ≤ length (held .memory)) (t : Target) (bytes body : List ℕ)
+    (d : IsDump programSize t bytes body) where
+  -- what is named holds what was stored
+  pub part-stored : bytesIn programSize player t (storeIn programSize player t bytes held) ≡ bytes
+  part-stored =
+      let inside = named-inside player t (d .there) in
+      part-put (placeFor programSize player t) (countFor programSize t) bytes (held .memory) (omega arith) (d .count)
+
+  -- finished on a socket, by the same player
+  pub comes-back : (let after = messageDoes settings player held (SysEx body) .held in
+      messageDoes settings player after (SysEx (requestBody t)) ≡ sending (ended body) after)
+  unfolding messageDoes
+  comes-back =
+      let stored = ap (λ (o : Outcome). o .held) (body-exactly settings player held body .named body refl t bytes d) in
+      let after = storeIn programSize player t bytes held in
+      rw stored (body-exactly settings player after (requestBody t) .dumped (requestBody t) refl t (record { there = d .there; form = refl })
+      ∙ ap (λ (part : List ℕ). sending (ended (dumpBody t part)) after) part-stored ∙ ap (λ (b : List ℕ). sending (ended b) after) (sym (d .form)))
+
+  -- handed over whole
+  pub comes-back-whole : (let after = handedDoes settings player (ended body) held .held in
+      handedDoes settings player (ended (requestBody t)) after ≡ sending (ended body) after)
+  unfolding messageDoes
+  comes-back-whole =
+      rw (ended-does settings player body held (dump-opens t bytes body d))
+      (ended-does settings player (requestBody t) _ (request-opens t (requestBody t) (record { there = d .there; form = refl })) ∙ comes-back)
