@@ -10,3 +10,5 @@ pub mod Byte48
 pub mod Reasons
 pub mod Sockets
 pub mod Fed
+pub mod ToldApart
+pub mod AsTheBox

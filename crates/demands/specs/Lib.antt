@@ -3,3 +3,4 @@ pub mod Exactly
 pub mod Order
 pub mod Reasons
 pub mod Byte48
+pub mod Told

@@ -1,0 +1,34 @@
+-- What a C call leaves is what the box's own promise says, under an answer that the number tells: so every theorem about `takeOf` and `wholeOf`, the demands'
+-- among them, speaks of the C calls.
+use Prim.Native.Nat.{ℕ}
+use mathlib.Core.List.{List}
+use mathlib.Core.Path.{_≡_, ap}
+use Rattle.ground.specs.Calls.{Left, left}
+use Rattle.programs.specs.Held.{Held}
+use Rattle.framing.specs.declared.Receiver.{Receiver}
+use Rattle.sockets.specs.Box.{Took, took}
+use Rattle.sysex.specs.declared.Settings.{Settings}
+use Rattle.sysex.specs.declared.Answer.{Answer}
+use Rattle.podbox.specs.Box.{takeOf, wholeOf}
+use Rattle.costerbloom.specs.Numbers.{takeNumbers, wholeNumbers}
+use Rattle.demands.specs.Told.{Told}
+use Rattle.demands.proofs.ToldApart.{take-told, whole-told}
+
+pub take-as-box : (settings : Settings) (socket : ℕ) (receiver : Receiver) (byte : ℕ) (held : Held) (receive reply : List ℕ) (r : Receiver) (n : ℕ) (m : Held) (x o : List ℕ)
+    → took r n m x o ≡ takeNumbers settings socket receiver byte held receive reply
+    → (answer : Answer) × (took r answer m x o ≡ takeOf settings socket receiver byte held receive reply) × Told answer n
+unfolding takeNumbers
+take-as-box settings socket receiver byte held receive reply r n m x o e =
+    let answer = takeOf settings socket receiver byte held receive reply .answer in (
+      answer,
+      ap (λ (l : Took Held ℕ). took (l .receiver) answer (l .held) (l .receive) (l .reply)) e,
+      rw (ap (λ (l : Took Held ℕ). l .answer) e) (take-told settings socket receiver byte held receive reply),
+    )
+
+pub whole-as-box : (settings : Settings) (message : List ℕ) (held : Held) (reply : List ℕ) (n : ℕ) (m : Held) (o : List ℕ)
+    → left n m o ≡ wholeNumbers settings message held reply
+    → (answer : Answer) × (left answer m o ≡ wholeOf settings message held reply) × Told answer n
+unfolding wholeNumbers
+whole-as-box settings message held reply n m o e =
+    let answer = wholeOf settings message held reply .answer in
+    (answer, ap (λ (l : Left Held ℕ). left answer (l .held) (l .reply)) e, rw (ap (λ (l : Left Held ℕ). l .answer) e) (whole-told settings message held reply))
