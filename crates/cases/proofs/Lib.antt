@@ -1,5 +1,6 @@
-pub mod Case
 pub mod Marked
 pub mod Raised
 pub mod Why
 pub mod ShutOut
+pub mod Unwritten
+pub mod FirstAlone

@@ -1,100 +1,23 @@
--- "The cases marked * below are one table, with a single statement that the definitions give them."
-use Prim.Native.Nat.{ℕ}
-use mathlib.Core.List.{List, [], _∷_}
+-- The marked cases are given.
 use mathlib.Core.Path.{refl}
-use lib.ListN.{replicate}
-use Rattle.halves.specs.HalfBytes.{split}
-use Rattle.halves.specs.Moving.{numberOf, joinInto}
+use Rattle.halves.specs.Moving.{joinInto}
 use Rattle.controls.specs.Formulas.{numberBy, numberFor, mOf, nextFor}
 use Rattle.controls.specs.Table.{rows, rowOf, selections, effectOf, selected}
 use Rattle.controls.specs.Scaling.{scaleOf}
-use Rattle.controls.specs.Applying.{store, applyOf}
+use Rattle.controls.specs.Applying.{storeRow, applyOf}
 use Rattle.controls.specs.Showing.{shownOf, backOf}
-use Rattle.framing.specs.declared.Receiver.{Receiver}
-use Rattle.framing.specs.Receiver.{fresh, soundOf, isWritten, countRight, runningRight, waitingRight, longIsFull, takesOne, takesTwo}
+use Rattle.framing.specs.Receiver.{soundOf, isWritten, countRight, runningRight, waitingRight, longIsFull, takesOne, takesTwo}
 use Rattle.framing.specs.Bytes.{stepOf}
-use Rattle.sysex.specs.Numbers as box
+use Rattle.sockets.specs.Promise.{stepDoes, byteOf, directOf}
 use Rattle.sysex.specs.Forms.{bodyLength, isIdentity}
-use Rattle.sysex.specs.Judging.{hasForm, hasProgram, furtherTests, bodyOrder, orderOf, judgeOf}
+use Rattle.sysex.specs.Judging.{hasForm, hasProgram, furtherTests, orderOf, bodyOrder}
 use Rattle.sysex.specs.Carrying.{orderDoes}
-use Rattle.sysex.specs.Formats.{One}
-use Rattle.podbox.specs.Settings.{isValid, freshSettings, freshMemory}
-use Rattle.podbox.specs.Messages.{isHeard, isController, carry}
-use Rattle.podbox.specs.Whole.{isFramed, messageOrder, wholeOf}
-use Rattle.podbox.specs.Take.{stepDoes, readyDoes, takeOf}
-use Rattle.podbox.proofs.WholeMessages.{dumpMessage, requestMessage}
-use Rattle.cases.proofs.Case.{Case, _is_, Given, scaled, shown, with, after, bytes}
+use Rattle.podbox.specs.Settings.{isValid, freshSettings, freshHeld}
+use Rattle.podbox.specs.Messages.{isHeard, isController, channelDoes, messageDoes}
+use Rattle.podbox.specs.Whole.{isFramed, messageOrder}
+use Rattle.cases.specs.Case.{AllGiven}
+use Rattle.cases.specs.Marked.{marked}
 
-travels : ℕ → List ℕ
-travels byte = split (byte ∷ [])
-
--- half bytes read into one byte that was 0: the refusal number, and the byte
-reads : List ℕ → List ℕ
-reads halves = let l = joinInto halves (0 ∷ []) in numberOf (l .answer) ∷ l .buffer
-
-unfoldable pub zeros : ℕ → List ℕ
-zeros count = replicate count 0
-
--- a fresh box, set as the listing program's: the number of each byte of a run on socket 0, and of a message that is handed over whole
-run : List ℕ → Receiver → List ℕ → List ℕ → List ℕ → List ℕ
-run [] receiver memory receive reply = []
-run (byte ∷ bytes) receiver memory receive reply =
-    let l = takeOf freshSettings 0 receiver byte memory receive reply in
-    box.numberOf (l .answer) ∷ run bytes (l .receiver) (l .memory) (l .receive) (l .reply)
-
-called : List ℕ → List ℕ
-called bytes = run bytes fresh freshMemory (zeros 5193) (zeros 5193)
-
-handed : List ℕ → List ℕ
-handed message = box.numberOf (wholeOf freshSettings message freshMemory (zeros 5193) .answer) ∷ []
-
-pub marked : List Case
-marked =
-    -- "A7 travels as 0A 07; 0A 07 reads A7; 10 00 is 16."
-    travels 0xA7 is (0x0A ∷ 0x07 ∷ []) ∷
-    reads (0x0A ∷ 0x07 ∷ []) is (0 ∷ 0xA7 ∷ []) ∷
-    reads (0x10 ∷ 0x00 ∷ []) is (16 ∷ 0 ∷ []) ∷
-    -- "25: 63 gives 0, 64 gives 1."
-    scaled 25 63 is (0 ∷ 0 ∷ []) ∷
-    scaled 25 64 is (0 ∷ 1 ∷ []) ∷
-    -- "23: 0, 64, 127 give 96, 47, 0."
-    scaled 23 0 is (0 ∷ 96 ∷ []) ∷
-    scaled 23 64 is (0 ∷ 47 ∷ []) ∷
-    scaled 23 127 is (0 ∷ 0 ∷ []) ∷
-    -- "42: 21, 22, 127 give 0, 1, 5."
-    scaled 42 21 is (0 ∷ 0 ∷ []) ∷
-    scaled 42 22 is (0 ∷ 1 ∷ []) ∷
-    scaled 42 127 is (0 ∷ 5 ∷ []) ∷
-    -- "51 at 127: 6,350, bytes CE 18. 52 at 127: 312. 54 at 127: 774."
-    scaled 51 127 is (0 ∷ 6350 ∷ []) ∷
-    bytes 48 2 (after 51 127 (with 46 0)) is (0xCE ∷ 0x18 ∷ []) ∷
-    scaled 52 127 is (0 ∷ 312 ∷ []) ∷
-    scaled 54 127 is (0 ∷ 774 ∷ []) ∷
-    -- "56 at 0: 100; at 127: 2,894, bytes 4E 0B."
-    scaled 56 0 is (0 ∷ 100 ∷ []) ∷
-    scaled 56 127 is (0 ∷ 2894 ∷ []) ∷
-    bytes 49 2 (after 56 127 (with 46 2)) is (0x4E ∷ 0x0B ∷ []) ∷
-    -- "From zero, 30 at 64: bytes 00 C0 00; then 62 at 1: 06 C0 00."
-    bytes 26 3 (after 30 64 (with 0 0)) is (0x00 ∷ 0xC0 ∷ 0x00 ∷ []) ∷
-    bytes 26 3 (after 62 1 (after 30 64 (with 0 0))) is (0x06 ∷ 0xC0 ∷ 0x00 ∷ []) ∷
-    -- "30 and 62 both 127: FA 7F 01."
-    bytes 26 3 (after 62 127 (after 30 127 (with 0 0))) is (0xFA ∷ 0x7F ∷ 0x01 ∷ []) ∷
-    -- "Back: 13 from 63 shows 126; 23 from 0 shows 126; 25 from 2 is 40."
-    shown 13 (with 9 63) is (0 ∷ 126 ∷ []) ∷
-    shown 23 (with 16 0) is (0 ∷ 126 ∷ []) ∷
-    shown 25 (with 0 2) is (40 ∷ 0 ∷ []) ∷
-    -- "Back: 52 from 1 is 40, from 2 shows 1."
-    shown 52 (with 50 1) is (40 ∷ 0 ∷ []) ∷
-    shown 52 (with 50 2) is (0 ∷ 1 ∷ []) ∷
-    -- "12 at 27 applied, at 28 is 18. Program 0x23 taken, 0x24 is 14."
-    called (0xB0 ∷ 12 ∷ 27 ∷ []) is (0 ∷ 0 ∷ 3 ∷ []) ∷
-    called (0xB0 ∷ 12 ∷ 28 ∷ []) is (0 ∷ 0 ∷ 18 ∷ []) ∷
-    handed (requestMessage (One 0x23)) is (2 ∷ []) ∷
-    handed (requestMessage (One 0x24)) is (14 ∷ []) ∷
-    handed (dumpMessage (One 0x23) (zeros 72)) is (1 ∷ []) ∷
-    handed (dumpMessage (One 0x24) (zeros 72)) is (14 ∷ []) ∷
-    []
-
-pub as-the-paper-says : Given marked
-unfolding marked travels reads joinInto scaleOf applyOf store backOf shownOf numberBy numberFor mOf nextFor rowOf rows effectOf selections selected freshSettings freshMemory zeros run called handed soundOf isWritten countRight runningRight waitingRight longIsFull takesOne takesTwo stepOf bodyLength isIdentity hasForm hasProgram furtherTests bodyOrder orderOf judgeOf orderDoes isValid isHeard isController carry isFramed messageOrder wholeOf stepDoes readyDoes takeOf
+pub as-the-paper-says : AllGiven marked
+unfolding marked joinInto scaleOf applyOf storeRow backOf shownOf numberBy numberFor mOf nextFor rowOf rows effectOf selections selected freshSettings freshHeld soundOf isWritten countRight runningRight waitingRight longIsFull takesOne takesTwo stepOf stepDoes byteOf directOf bodyLength isIdentity hasForm hasProgram furtherTests bodyOrder orderOf orderDoes isValid isHeard isController channelDoes messageDoes isFramed messageOrder
 as-the-paper-says = refl

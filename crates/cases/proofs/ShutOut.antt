@@ -1,96 +1,122 @@
--- Bad boxes that the promises shut out: whatever keeps the promise differs from each of them, at the input or the history given here.
-use Prim.Native.Nat.{ℕ, _≤_}
-use mathlib.Core.List.{List, [], _∷_}
-use mathlib.Core.Path.{_≡_, ap}
+-- Bad boxes that the promises shut out: whatever keeps the promise is none of them, by the call given here.
+use Prim.Native.Nat.{ℕ, _+_, _≤_}
+use mathlib.Core.Bool.{Bool, true, false, false≢true}
+use mathlib.Core.List.{List}
+use mathlib.Core.Logic.{inr}
+use mathlib.Core.Path.{_≡_, refl, ap, subst}
 use native.Mathlib.Omega.{arith}
-use lib.ListN.{getD}
+use lib.ListN.{length, getD, replicate}
+use Rattle.ground.specs.Lists.{written}
+use Rattle.ground.specs.Tests.{tested, AllHold}
+use Rattle.ground.proofs.InOrder.{tested-cases}
+use Rattle.programs.specs.Memory.{programSize, editPlace}
+use Rattle.programs.specs.Held.{Held, Edit}
 use Rattle.controls.specs.Formulas.{numberBy, numberFor, nextFor}
 use Rattle.controls.specs.Table.{rows, rowOf, selections, effectOf, selected}
-use Rattle.controls.specs.Applying.{store, applyOf}
-use Rattle.framing.specs.declared.Receiver.{Receiver}
-use Rattle.framing.specs.Receiver.{fresh, soundOf, isWritten, countRight, runningRight, waitingRight, longIsFull, takesOne, takesTwo}
+use Rattle.controls.specs.Applying.{storeRow, applyOf}
+use Rattle.framing.specs.Receiver.{holdingOf, openedOf, soundOf, isWritten, countRight, runningRight, waitingRight, longIsFull, takesOne, takesTwo}
 use Rattle.framing.specs.Bytes.{stepOf}
-use Rattle.sockets.specs.Framer.{Channel, hears}
-use Rattle.sockets.specs.Calls.{S0, feed, finishes}
-use Rattle.sockets.specs.Box.{AnswersOf}
-use Rattle.sockets.specs.History.{WorldOf, History}
-use Rattle.sockets.specs.Demand.{Fresh}
-use Rattle.sysex.specs.declared.Settings.{Settings}
-use Rattle.sysex.specs.Numbers.{numberOf}
-use Rattle.sysex.specs.Forms.{bodyLength, isIdentity}
-use Rattle.sysex.specs.Judging.{hasForm, hasProgram, furtherTests, bodyOrder, orderOf, judgeOf}
+use Rattle.sockets.specs.Box.{Lent, lent}
+use Rattle.sockets.specs.Promise.{stepDoes, byteOf, directOf}
+use Rattle.sysex.specs.Forms.{bodyLength, isIdentity, requestBody, dumpBody, ended}
+use Rattle.sysex.specs.Judging.{hasForm, hasProgram, furtherTests, orderOf, bodyOrder, judgeOf}
 use Rattle.sysex.specs.Carrying.{orderDoes}
-use Rattle.podbox.specs.Settings.{isValid, freshSettings, freshMemory}
-use Rattle.podbox.specs.Messages.{isHeard, isController, carry}
-use Rattle.podbox.specs.Take.{TookByte, stepDoes, readyDoes, takeOf}
-use Rattle.podbox.specs.Box.{State, stateOf, boxRules}
-use Rattle.podbox.proofs.Sockets.{box-demand3}
-use Rattle.cases.proofs.Marked.{zeros}
+use Rattle.podbox.specs.Settings.{isValid, freshSettings, freshHeld}
+use Rattle.podbox.specs.Messages.{isHeard, isController, channelDoes, messageDoes}
+use Rattle.podbox.specs.Whole.{isFramed, messageOrder}
+use Rattle.podbox.specs.Box.{takeTests, wholeTests, wholeOf}
+use Rattle.cases.specs.Asking.{empty}
+use Rattle.cases.specs.ShutOut.{ByteCall, WholeCall, promised, ShutOut, ShutOutWhole, EndsSysEx, EndsChannel, Ends, Refuses, RefusesWhole, ReturnsZero, NeverWrites, NeverWritesWhole, WritesNone}
 
--- a fresh memory and a buffer of zeros, as long as is asked
-abbrev memory : List ℕ
-memory = freshMemory
+-- a bad box is shut out if the promised one is not bad
+pub shut : (Bad : ByteCall → Type 0) → (Bad promised → ⊥) → ShutOut Bad
+shut Bad not box keeps bad = not (subst Bad (λ i settings socket byte entry. keeps settings socket byte entry i) bad)
 
-abbrev empty : List ℕ
-empty = zeros 5193
-
--- an open SysEx: the request for the edit buffer, up to its F7
-unfoldable asking : Receiver
-asking = record { stored = 7; inside = 1; over = 0; running = 0; held = 0; waiting = 0 }
-
-unfoldable request : List ℕ
-request = 0xF0 ∷ 0x00 ∷ 0x01 ∷ 0x0C ∷ 0x01 ∷ 0x00 ∷ 0x01 ∷ zeros 5186
-
--- controller 12, whose value is to come; it writes byte 8 of the edit buffer
-unfoldable moving : Receiver
-moving = record { stored = 0; inside = 0; over = 0; running = 0xB0; held = 1; waiting = 12 }
+pub shut-whole : (Bad : WholeCall → Type 0) → (Bad wholeOf → ⊥) → ShutOutWhole Bad
+shut-whole Bad not box keeps bad = not (subst Bad (λ i settings message held reply. keeps settings message held reply i) bad)
 
 -- byte 8 of the edit buffer
-abbrev model : List ℕ → ℕ
-model m = getD m 2600 0
+abbrev pub model : Held → ℕ
+model held = getD (held .memory) (editPlace programSize 0 + 8) 0
 
-module _ (box : Settings → ℕ → Receiver → ℕ → List ℕ → List ℕ → List ℕ → TookByte)
-    (keeps : (s : Settings) (socket : ℕ) (r : Receiver) (byte : ℕ) (m receive reply : List ℕ) → box s socket r byte m receive reply ≡ takeOf s socket r byte m receive reply) where
-  -- what such a box would always leave, by the memory and the reply buffer that it was lent
-  abbrev Always : (List ℕ → List ℕ → TookByte → Type 0) → Type 0
-  Always P = (s : Settings) (socket : ℕ) (r : Receiver) (byte : ℕ) (m receive reply : List ℕ) → P m reply (box s socket r byte m receive reply)
+-- what a fresh box is lent: controller 12, which writes byte 8, waits for its value; and a SysEx is open
+abbrev moving : Lent Held
+moving = lent (holdingOf 0xB0 12) freshHeld empty empty
 
-  -- a box that refuses everything: it must take F8
-  pub refuses-everything : Always (λ m reply l. 10 ≤ numberOf (l .answer)) → ⊥
-  unfolding freshSettings freshMemory zeros soundOf isWritten countRight runningRight waitingRight longIsFull takesOne takesTwo stepOf isValid stepDoes readyDoes takeOf
-  refuses-everything bad =
-      let e : numberOf (box freshSettings 0 fresh 0xF8 memory empty empty .answer) ≡ 0 = ap (λ (l : TookByte). numberOf (l .answer)) (keeps freshSettings 0 fresh 0xF8 memory empty empty) in
-      absurd (omega (arith, e, bad freshSettings 0 fresh 0xF8 memory empty empty))
+abbrev inside : List ℕ → Lent Held
+inside body = lent (openedOf (length body) 0) freshHeld (written body empty) empty
 
-  -- a box that returns 0 for every byte: C0 cuts an open SysEx
-  pub returns-zero : Always (λ m reply l. numberOf (l .answer) ≡ 0) → ⊥
-  unfolding freshSettings freshMemory zeros asking soundOf isWritten countRight runningRight waitingRight longIsFull takesOne takesTwo stepOf isValid stepDoes readyDoes takeOf
-  returns-zero bad =
-      let e : numberOf (box freshSettings 0 asking 0xC0 memory empty empty .answer) ≡ 4 = ap (λ (l : TookByte). numberOf (l .answer)) (keeps freshSettings 0 asking 0xC0 memory empty empty) in
-      absurd (omega (arith, e, bad freshSettings 0 asking 0xC0 memory empty empty))
+-- a dump to the edit buffer, and the request for it
+abbrev dumped : List ℕ
+dumped = dumpBody Edit (replicate programSize 1)
 
-  -- a box that never writes memory: controller 12 at 27 must stand in byte 8
-  pub never-writes : Always (λ m reply l. l .memory ≡ m) → ⊥
-  unfolding freshSettings freshMemory zeros moving soundOf isWritten countRight runningRight waitingRight longIsFull takesOne takesTwo stepOf isValid stepDoes readyDoes takeOf isHeard isController carry applyOf store rowOf rows numberBy numberFor nextFor effectOf selections selected
-  never-writes bad =
-      let e : model (box freshSettings 0 moving 27 memory empty empty .memory) ≡ 27 = ap (λ (l : TookByte). model (l .memory)) (keeps freshSettings 0 moving 27 memory empty empty) in
-      let b : model (box freshSettings 0 moving 27 memory empty empty .memory) ≡ 0 = ap (λ (m : List ℕ). model m) (bad freshSettings 0 moving 27 memory empty empty) in
-      absurd (omega (arith, e, b))
+abbrev asking : List ℕ
+asking = requestBody Edit
 
-  -- a box that reports a reply length it did not write: the dump of the edit buffer begins with F0
-  pub writes-no-reply : Always (λ m reply l. l .reply ≡ reply) → ⊥
-  unfolding freshSettings freshMemory zeros asking request soundOf isWritten countRight runningRight waitingRight longIsFull takesOne takesTwo stepOf isValid stepDoes readyDoes takeOf carry bodyLength isIdentity hasForm hasProgram furtherTests bodyOrder orderOf judgeOf orderDoes
-  writes-no-reply bad =
-      let e : getD (box freshSettings 0 asking 0xF7 memory request empty .reply) 0 0 ≡ 0xF0 = ap (λ (l : TookByte). getD (l .reply) 0 0) (keeps freshSettings 0 asking 0xF7 memory request empty) in
-      let b : getD (box freshSettings 0 asking 0xF7 memory request empty .reply) 0 0 ≡ 0 = ap (λ (m : List ℕ). getD m 0 0) (bad freshSettings 0 asking 0xF7 memory request empty) in
-      absurd (omega (arith, e, b))
+-- a fresh box turns no call away whose tests compute
+taken : (entry : Lent Held) → tested (takeTests freshSettings 0 entry) (λ number. false) true ≡ true → AllHold (takeTests freshSettings 0 entry)
+taken entry =
+    let ts = takeTests freshSettings 0 entry in
+    tested-cases (λ (t : Bool). t ≡ true → AllHold ts) ts (λ number. false) true (λ all e. all) (λ number f e. absurd (false≢true e))
 
--- a box that acts on the first finished message and only numbers the later ones: after controller 12 at 27 and at 5, byte 8 is 5
-pub first-alone : (w v : WorldOf (boxRules freshSettings)) (answers : AnswersOf (boxRules freshSettings)) → Fresh (boxRules freshSettings) w → w .store ≡ stateOf memory
-    → History (boxRules freshSettings) w (feed S0 (0xB0 ∷ 12 ∷ 27 ∷ 12 ∷ 5 ∷ [])) v answers → v .store ≡ stateOf (carry freshSettings memory (Channel 0xB0 12 27) .memory) → ⊥
-unfolding freshSettings freshMemory zeros hears finishes takesOne isHeard isController carry applyOf store rowOf rows numberBy numberFor nextFor effectOf selections selected
-first-alone w v answers new e history bad =
-    let d = box-demand3 freshSettings w v (feed S0 (0xB0 ∷ 12 ∷ 27 ∷ 12 ∷ 5 ∷ [])) answers new history .store in
-    let five : model (v .store .memory) ≡ 5 = ap (λ (state : State). model (state .memory)) (rw e at d) in
-    let first : model (v .store .memory) ≡ 27 = ap (λ (state : State). model (state .memory)) bad in
-    absurd (omega (arith, five, first))
+taken-whole : AllHold (wholeTests freshSettings freshHeld empty)
+unfolding freshSettings freshHeld isValid
+taken-whole = (refl, (refl, (refl, tt)))
+
+-- controller 12 at 27 is applied
+pub refuses-controllers : ShutOut (Refuses EndsChannel)
+unfolding freshSettings freshHeld soundOf isWritten countRight runningRight waitingRight longIsFull takesOne takesTwo stepOf isValid stepDoes byteOf isHeard isController channelDoes messageDoes applyOf storeRow rowOf rows numberBy numberFor nextFor effectOf selections selected
+refuses-controllers =
+    shut (Refuses EndsChannel) (λ bad.
+    let z : 10 ≤ 3 = bad freshSettings 0 27 moving (taken moving refl) (0xB0, 12, 27, refl) in
+    omega (arith, z))
+
+-- a dump is stored
+pub refuses-dumps : ShutOut (Refuses EndsSysEx)
+unfolding freshSettings freshHeld soundOf isWritten countRight runningRight waitingRight longIsFull takesOne takesTwo stepOf isValid stepDoes byteOf messageDoes bodyLength isIdentity hasForm hasProgram furtherTests bodyOrder orderOf judgeOf orderDoes
+refuses-dumps =
+    shut (Refuses EndsSysEx) (λ bad.
+    let z : 10 ≤ 1 = bad freshSettings 0 0xF7 (inside dumped) (taken (inside dumped) refl) (length dumped, refl) in
+    omega (arith, z))
+
+pub refuses-everything : ShutOut (Refuses Ends)
+refuses-everything box keeps bad = refuses-controllers box keeps (λ settings socket byte entry all ends. bad settings socket byte entry all (inr ends))
+
+-- C0 cuts an open SysEx
+pub returns-zero : ShutOut ReturnsZero
+unfolding freshSettings freshHeld soundOf isWritten countRight runningRight waitingRight longIsFull takesOne takesTwo stepOf isValid stepDoes byteOf
+returns-zero =
+    shut ReturnsZero (λ bad.
+    let z : _≡_ {A = ℕ} 4 0 = bad freshSettings 0 0xC0 (inside asking) (taken (inside asking) refl) in
+    omega (arith, z))
+
+-- controller 12 at 27 stands in byte 8
+pub never-writes : ShutOut NeverWrites
+unfolding freshSettings freshHeld soundOf isWritten countRight runningRight waitingRight longIsFull takesOne takesTwo stepOf isValid stepDoes byteOf isHeard isController channelDoes messageDoes applyOf storeRow rowOf rows numberBy numberFor nextFor effectOf selections selected
+never-writes =
+    shut NeverWrites (λ bad.
+    let z : _≡_ {A = ℕ} 27 0 = ap model (bad freshSettings 0 27 moving (taken moving refl)) in
+    omega (arith, z))
+
+-- the dump of the edit buffer begins with F0
+pub writes-no-reply : ShutOut WritesNone
+unfolding freshSettings freshHeld soundOf isWritten countRight runningRight waitingRight longIsFull takesOne takesTwo stepOf isValid stepDoes byteOf messageDoes bodyLength isIdentity hasForm hasProgram furtherTests bodyOrder orderOf judgeOf orderDoes
+writes-no-reply =
+    shut WritesNone (λ bad.
+    let z : _≡_ {A = ℕ} 0xF0 0 = ap (λ (told : List ℕ). getD told 0 0) (bad freshSettings 0 0xF7 (inside asking) (taken (inside asking) refl)) in
+    omega (arith, z))
+
+-- the panel's dump is stored
+pub refuses-whole : ShutOutWhole RefusesWhole
+unfolding freshSettings freshHeld isValid directOf isFramed messageOrder bodyLength isIdentity hasForm hasProgram furtherTests bodyOrder orderOf orderDoes
+refuses-whole =
+    shut-whole RefusesWhole (λ bad.
+    let z : 10 ≤ 1 = bad freshSettings (ended dumped) freshHeld empty taken-whole in
+    omega (arith, z))
+
+pub never-writes-whole : ShutOutWhole NeverWritesWhole
+unfolding freshSettings freshHeld isValid directOf isFramed messageOrder bodyLength isIdentity hasForm hasProgram furtherTests bodyOrder orderOf orderDoes
+never-writes-whole =
+    shut-whole NeverWritesWhole (λ bad.
+    let z : _≡_ {A = ℕ} 1 0 = ap model (bad freshSettings (ended dumped) freshHeld empty taken-whole) in
+    omega (arith, z))

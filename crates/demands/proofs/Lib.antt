@@ -1,6 +1,7 @@
 pub mod Passed
 pub mod Accepts
 pub mod Forms
+pub mod Tells
 pub mod Carried
 pub mod Exactly
 pub mod ComesBack

@@ -22,24 +22,20 @@ use Rattle.sockets.proofs.Calm.{calms}
 use Rattle.sockets.proofs.Live.{Ready, AllFair, live}
 use Rattle.sysex.specs.declared.Settings.{Settings}
 use Rattle.sysex.specs.Forms.{longest}
-use Rattle.sysex.specs.Numbers.{answerNumber, answerLength}
+use Rattle.sysex.specs.Numbers.{answerNumber}
 use Rattle.sysex.specs.Carrying.{Outcome}
 use Rattle.podbox.specs.Settings.{isValid}
+use Rattle.podbox.specs.Whole.{bodyOf, messageOrder}
 use Rattle.podbox.specs.Box.{limit, panel, boxRules}
+use Rattle.demands.proofs.Tells.{order-tells, message-tells}
 use Rattle.demands.proofs.Carried.{Tame, stores, sends, applies, refuses, message-tame, handed-tame}
 
--- what an outcome does not do: it neither grows memory, nor tells a length that it did not send, nor turns a call away
+-- what an outcome does not do: it neither grows memory nor turns a call away
 tame-length : {held : Held} {o : Outcome} → Tame held o → length (o .held .memory) ≡ length (held .memory)
 tame-length (stores after e) = e
 tame-length (sends bytes short) = refl
 tame-length (applies after e) = e
 tame-length (refuses number lo hi) = refl
-
-pub tame-told : {held : Held} {o : Outcome} → Tame held o → answerLength (o .answer) ≡ length (o .sent)
-tame-told (stores after e) = refl
-tame-told (sends bytes short) = refl
-tame-told (applies after e) = refl
-tame-told (refuses number lo hi) = refl
 
 tame-taken : {held : Held} {o : Outcome} → Tame held o → turnedAway (answerNumber (o .answer)) ≡ false
 tame-taken (stores after e) = refl
@@ -67,8 +63,8 @@ module _ (settings : Settings) where
     kept = kept;
     quiet = (refl, refl);
     cut = (refl, refl);
-    told = λ held s m g. tame-told (message-tame settings (socketNumber s) held g m);
-    toldDirect = λ held message g. tame-told (handed-tame settings panel held g message);
+    told = λ held s m g. message-tells settings (socketNumber s) held m;
+    toldDirect = λ held message g. order-tells settings panel held (messageOrder settings message) (bodyOf message);
     passes = λ held message g. refl;
   }
 

@@ -1,0 +1,6 @@
+pub mod Case
+pub mod Asking
+pub mod Marked
+pub mod Raised
+pub mod Why
+pub mod ShutOut

@@ -1,0 +1,47 @@
+-- The length that an answer tells is that of what is sent.
+use Prim.Native.Nat.{ℕ}
+use mathlib.Core.List.{List}
+use mathlib.Core.Path.{_≡_, refl}
+use lib.ListN.{length}
+use Rattle.ground.proofs.InOrder.{tested-cases}
+use Rattle.programs.specs.Memory.{programSize}
+use Rattle.programs.specs.Held.{Held, Edit, bytesIn}
+use Rattle.controls.specs.declared.Change.{Change}
+use Rattle.controls.specs.declared.Change.the-variants as change
+use Rattle.controls.specs.Applying.{applyOf}
+use Rattle.sockets.specs.Framer.{Message, SysEx, TooLong, Channel}
+use Rattle.sysex.specs.declared.Settings.{Settings}
+use Rattle.sysex.specs.declared.Order.{Order}
+use Rattle.sysex.specs.declared.Order.the-variants.{Identify, SendProgram, SendEdit, SendAll, StoreProgram, StoreEdit, StoreAll, Refused}
+use Rattle.sysex.specs.Numbers.{answerLength}
+use Rattle.sysex.specs.Judging.{judgeOf}
+use Rattle.sysex.specs.Carrying.{Outcome, refusing, orderDoes}
+use Rattle.podbox.specs.Messages.{channelTests, changeAnswer, controllerDoes, channelDoes, messageDoes}
+
+-- whatever the box holds
+abbrev pub Tells : Outcome → Type 0
+Tells o = answerLength (o .answer) ≡ length (o .sent)
+
+change-tells : (c : Change) → answerLength (changeAnswer c) ≡ 0
+change-tells change.Applied = refl
+change-tells (change.Refused number) = refl
+
+module _ (settings : Settings) (player : ℕ) (held : Held) where
+  pub order-tells : (o : Order) (body : List ℕ) → Tells (orderDoes programSize settings player o body held)
+  unfolding orderDoes
+  order-tells (Identify cc) body = refl
+  order-tells (SendProgram p) body = refl
+  order-tells SendEdit body = refl
+  order-tells SendAll body = refl
+  order-tells (StoreProgram p) body = refl
+  order-tells StoreEdit body = refl
+  order-tells StoreAll body = refl
+  order-tells (Refused check) body = refl
+
+  pub message-tells : (m : Message) → Tells (messageDoes settings player held m)
+  unfolding messageDoes channelDoes
+  message-tells (SysEx body) = order-tells (judgeOf programSize settings body) body
+  message-tells TooLong = refl
+  message-tells (Channel status first second) =
+      tested-cases Tells (channelTests settings status) (refusing held) (controllerDoes player first second held)
+      (λ _. change-tells (applyOf first second (bytesIn programSize player Edit held) .answer)) (λ number _. refl)
