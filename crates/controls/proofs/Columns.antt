@@ -8,7 +8,8 @@ use lib.ListN.{getD}
 use borrow.Author.Tests.{eqb-true, leb-true, le-leb}
 use Rattle.ground.proofs.Tests.{both}
 use Rattle.ground.proofs.InOrder.{tested-passed}
-use Rattle.ground.proofs.Computed.{column, column-at, every-at}
+use Rattle.ground.specs.Lists.{column}
+use Rattle.ground.proofs.Computed.{column-at, every-at}
 use Rattle.controls.specs.declared.Row.{Row}
 use Rattle.controls.specs.declared.Reading.the-variants.{Value, Refused}
 use Rattle.controls.specs.Formulas.{m-upper, m-lower, v×50, v×256/42, v×25, numberBy, numberFor}

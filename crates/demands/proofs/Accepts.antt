@@ -5,13 +5,13 @@ use mathlib.Core.List.{List, [], _∷_}
 use mathlib.Core.Path.{_≡_, refl}
 use native.Mathlib.Omega.{arith}
 use lib.Dec.{eqb, leb}
-use lib.ListN.{length, getD}
+use lib.ListN.{length, getD, drop}
 use borrow.Author.Tests.{le-leb, eq-eqb}
 use Rattle.ground.specs.Lists.{allAtMost}
-use Rattle.halves.specs.HalfBytes.{split}
 use Rattle.halves.proofs.Laws.{length-split, split-halves}
 use Rattle.sysex.specs.declared.Settings.{Settings}
 use Rattle.sysex.specs.declared.Order.the-variants.{Identify}
+use Rattle.programs.specs.Memory.{lastProgram, allSize}
 use Rattle.programs.specs.Held.{Target, One, Edit, All, countFor}
 use Rattle.sysex.specs.Forms.{requestBody, dumpBody, identityBody, bodyLength, isIdentity, isOurChannel}
 use Rattle.sysex.specs.Judging.{hasForm, hasProgram, furtherTests, orderOf, bodyOrder, judgeOf}
@@ -29,9 +29,9 @@ no-identity rest = rw (and-false (leb (getD rest 0 0) 0x7F)) (and-false (eqb (su
 module _ (size : ℕ) (settings : Settings) where
   pub request-judged : (t : Target) → There t → judgeOf size settings (requestBody t) ≡ sendOrder t
   unfolding judgeOf hasForm furtherTests bodyLength hasProgram bodyOrder orderOf
-  request-judged (One p) h = rw (no-identity (0x01 ∷ 0x0C ∷ 0x01 ∷ 0 ∷ 0 ∷ p ∷ []), le-leb p 0x23 h)
-  request-judged Edit h = rw (no-identity (0x01 ∷ 0x0C ∷ 0x01 ∷ 0 ∷ 1 ∷ []))
-  request-judged All h = rw (no-identity (0x01 ∷ 0x0C ∷ 0x01 ∷ 0 ∷ 2 ∷ []))
+  request-judged (One p) h = rw (no-identity (drop 2 (requestBody (One p))), le-leb p lastProgram h)
+  request-judged Edit h = rw (no-identity (drop 2 (requestBody Edit)))
+  request-judged All h = rw (no-identity (drop 2 (requestBody All)))
 
   module _ (bytes : List ℕ) (low : allAtMost 0xFF bytes ≡ true) where
     pub dump-judged : (t : Target) → There t → length bytes ≡ countFor size t → judgeOf size settings (dumpBody t bytes) ≡ storeOrder t
@@ -39,16 +39,16 @@ module _ (size : ℕ) (settings : Settings) where
     dump-judged (One p) h e =
         let l = length-split bytes in
         rw (
-          no-identity (0x01 ∷ 0x0C ∷ 0x01 ∷ 1 ∷ 0 ∷ p ∷ 0 ∷ split bytes),
+          no-identity (drop 2 (dumpBody (One p) bytes)),
           le-leb 7 (length (dumpBody (One p) bytes)) (omega arith),
           eq-eqb (length (dumpBody (One p) bytes)) (9 + 2 * size) (omega arith),
-          le-leb p 0x23 h,
+          le-leb p lastProgram h,
           split-halves bytes low,
         )
     dump-judged Edit h e =
         let l = length-split bytes in
         rw (
-          no-identity (0x01 ∷ 0x0C ∷ 0x01 ∷ 1 ∷ 1 ∷ 0 ∷ split bytes),
+          no-identity (drop 2 (dumpBody Edit bytes)),
           le-leb 7 (length (dumpBody Edit bytes)) (omega arith),
           eq-eqb (length (dumpBody Edit bytes)) (8 + 2 * size) (omega arith),
           split-halves bytes low,
@@ -56,9 +56,9 @@ module _ (size : ℕ) (settings : Settings) where
     dump-judged All h e =
         let l = length-split bytes in
         rw (
-          no-identity (0x01 ∷ 0x0C ∷ 0x01 ∷ 1 ∷ 2 ∷ 0 ∷ split bytes),
+          no-identity (drop 2 (dumpBody All bytes)),
           le-leb 7 (length (dumpBody All bytes)) (omega arith),
-          eq-eqb (length (dumpBody All bytes)) (8 + 2 * (36 * size)) (omega arith),
+          eq-eqb (length (dumpBody All bytes)) (8 + 2 * allSize size) (omega arith),
           split-halves bytes low,
         )
 

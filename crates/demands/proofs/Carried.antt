@@ -22,10 +22,9 @@ use Rattle.sysex.specs.Forms.{typeFor, dataPlace, longest, dumpBody, identityRe
 use Rattle.sysex.specs.Numbers.{refused, checkNumber}
 use Rattle.sysex.specs.Judging.{judgeOf}
 use Rattle.sysex.specs.Carrying.{Outcome, orderDoes}
-use Rattle.sysex.specs.Formats.{There}
+use Rattle.sysex.specs.Formats.{Meant, identity, asked, dumped, unsaid}
 use Rattle.sysex.proofs.Numbered.{check-number}
-use Rattle.sysex.proofs.Understands as understood
-use Rattle.sysex.proofs.Understands.{Meant, identity, asked, dumped, meant}
+use Rattle.sysex.proofs.Understands.{meant}
 use Rattle.podbox.specs.Messages.{isHeard, isController, changeAnswer, controllerDoes, channelDoes, messageDoes}
 use Rattle.podbox.specs.Whole.{bodyOf, messageOrder, handedDoes}
 use Rattle.demands.proofs.Forms.{store-does, send-does, message-meant, named-inside, dump-fits}
@@ -52,7 +51,7 @@ module _ (settings : Settings) (player : ℕ) (held : Held) (m : memorySize prog
       let inside = named-inside player t (d .there) in
       rw (store-does settings player t body held)
       (stores _ (put-length (placeFor programSize player t) (countFor programSize t) (join (drop (dataPlace (typeFor t)) body)) (held .memory) (omega arith) (d .count)))
-  order-tame body o (understood.refused check) = let n = check-number check in refuses (checkNumber check) (n .0) (n .1)
+  order-tame body o (unsaid check) = let n = check-number check in refuses (checkNumber check) (n .0) (n .1)
 
   controller-tame : (controller value : ℕ) → Tame held (controllerDoes player controller value held)
   controller-tame controller value =

@@ -27,9 +27,8 @@ use Rattle.sysex.specs.declared.Answer.the-variants.{Stored, Sent}
 use Rattle.sysex.specs.Forms.{typeFor, dataPlace, longest, requestBody, dumpBody, identityReply, ended}
 use Rattle.sysex.specs.Judging.{judgeOf}
 use Rattle.sysex.specs.Carrying.{Outcome, refusing, orderDoes, bodyDoes, sending, answering}
-use Rattle.sysex.specs.Formats.{IsDump, IsRequest, IsIdentity}
-use Rattle.sysex.proofs.Understands as understood
-use Rattle.sysex.proofs.Understands.{Meant, identity, asked, dumped, meant}
+use Rattle.sysex.specs.Formats.{IsDump, IsRequest, IsIdentity, Meant, identity, asked, dumped, unsaid}
+use Rattle.sysex.proofs.Understands.{meant}
 use Rattle.podbox.specs.Messages.{messageDoes}
 use Rattle.podbox.specs.Whole.{isFramed, bodyOf, handedDoes}
 use Rattle.podbox.specs.Box.{limit, panel, takeTests, wholeTests, takeOf, wholeOf}
@@ -64,7 +63,7 @@ module _ (settings : Settings) (player : ℕ) (held : Held) where
   stored-order body o (identity channel i) e = let z : _≡_ {A = ℕ} 0 1 = cc in absurd (omega arith)
   stored-order body o (asked t q) e = let f = rw (send-does settings player t body held) at e in let z : _≡_ {A = ℕ} 0 1 = cc in absurd (omega arith)
   stored-order body o (dumped t d) e = (t, join (drop (dataPlace (typeFor t)) body), d)
-  stored-order body o (understood.refused check) e = let z : _≡_ {A = ℕ} 0 1 = cc in absurd (omega arith)
+  stored-order body o (unsaid check) e = let z : _≡_ {A = ℕ} 0 1 = cc in absurd (omega arith)
 
   answered-order : (count : ℕ) (body : List ℕ) (o : Order) → Meant programSize settings body o → orderDoes programSize settings player o body held .answer ≡ Sent count
       → ((t : Target) × IsRequest t body) ⊎ ((cc : ℕ) × IsIdentity settings cc body)
@@ -72,7 +71,7 @@ module _ (settings : Settings) (player : ℕ) (held : Held) where
   answered-order count body o (identity channel i) e = inr (channel, i)
   answered-order count body o (asked t q) e = inl (t, q)
   answered-order count body o (dumped t d) e = let f = rw (store-does settings player t body held) at e in let z : _≡_ {A = ℕ} 0 1 = cc in absurd (omega arith)
-  answered-order count body o (understood.refused check) e = let z : _≡_ {A = ℕ} 0 1 = cc in absurd (omega arith)
+  answered-order count body o (unsaid check) e = let z : _≡_ {A = ℕ} 0 1 = cc in absurd (omega arith)
 
   -- one body, whichever of them says that it is the message's
   pub body-exactly : (body : List ℕ) → Exactly settings player held (λ b. b ≡ body) (Does body)

@@ -19,9 +19,8 @@ use Rattle.sysex.specs.declared.Order.the-variants.{Refused}
 use Rattle.sysex.specs.Forms.{typeFor, dataPlace, longest, requestBody, dumpBody, identityBody, ended}
 use Rattle.sysex.specs.Judging.{hasForm, bodyOrder}
 use Rattle.sysex.specs.Carrying.{orderDoes, bodyDoes, answering, storing}
-use Rattle.sysex.specs.Formats.{There, IsDump, IsRequest, IsIdentity, sendOrder, storeOrder}
-use Rattle.sysex.proofs.Understands as understood
-use Rattle.sysex.proofs.Understands.{Meant, passed-meant}
+use Rattle.sysex.specs.Formats.{There, IsDump, IsRequest, IsIdentity, sendOrder, storeOrder, Meant, unsaid}
+use Rattle.sysex.proofs.Understands.{passed-meant}
 use Rattle.podbox.specs.Messages.{messageDoes}
 use Rattle.podbox.specs.Whole.{isFramed, bodyOf, messageTests, messageOrder, handedDoes}
 use Rattle.podbox.specs.Box.{limit}
@@ -110,4 +109,4 @@ module _ (settings : Settings) where
   message-meant message =
       tested-cases (Meant programSize settings (bodyOf message)) (messageTests settings message) Refused (bodyOrder (bodyOf message))
       (λ a. passed-meant programSize settings (bodyOf message) (both (isFramed message) (hasForm (bodyOf message)) (a .1 .0) .1, a .1 .1))
-      (λ check _. understood.refused check)
+      (λ check _. unsaid check)

@@ -5,3 +5,4 @@ pub mod Promise
 pub mod History
 pub mod Demand
 pub mod Calm
+pub mod Runs

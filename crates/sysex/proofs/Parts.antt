@@ -10,7 +10,7 @@ use Rattle.ground.specs.Lists.{written}
 use Rattle.ground.specs.Calls.{left, leaves}
 use Rattle.ground.proofs.Lists.{to-end}
 use Rattle.halves.specs.HalfBytes.{split, join}
-use Rattle.programs.specs.Memory.{memorySize, partOf, putPart}
+use Rattle.programs.specs.Memory.{lastProgram, programPlace, allSize, memorySize, partOf, putPart}
 use Rattle.programs.specs.Held.{Held, heldOf}
 use Rattle.sysex.specs.declared.Settings.{Settings}
 use Rattle.sysex.specs.declared.Answer.the-variants.{Sent}
@@ -31,7 +31,7 @@ pub stored-by : (place count from first : ℕ) (body memory x : List ℕ) → x 
 stored-by place count from first body memory x e f = rw (add-sub-cancel-left place count, e, to-end from body, f)
 
 -- a program's part lies among the programs
-pub program-inside : (size p : ℕ) → p ≤ 35 → p * size + size ≤ 36 * size
+pub program-inside : (size p : ℕ) → p ≤ lastProgram → programPlace size p + size ≤ allSize size
 program-inside size p h = let most = mul-le-mul-right size h in omega arith
 
 -- what a call does where the buffers that are lent are long enough

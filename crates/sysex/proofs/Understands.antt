@@ -23,7 +23,7 @@ use Rattle.sysex.specs.Forms.{header, begins, opcodeOf, typeOf, programO
 use Rattle.sysex.specs.Forms.{typeFor, ppFor, requestBody, identityBody, isIdentity, isOurChannel}
 use Rattle.sysex.specs.Judging.{hasForm, hasProgram, furtherTests, testsOf, orderOf, formOrder, bodyOrder, judgeOf}
 use Rattle.sysex.specs.Private.{HasData, Fits}
-use Rattle.sysex.specs.Formats.{There, sendOrder, storeOrder, IsDump, IsRequest, IsIdentity}
+use Rattle.sysex.specs.Formats.{There, IsDump, IsRequest, IsIdentity, Meant, identity, asked, dumped, unsaid}
 use Rattle.sysex.proofs.Judged.{Right, right}
 
 -- a list that begins so is that beginning, and the rest
@@ -113,13 +113,6 @@ module _ (size : ℕ) (body : List ℕ) (r : Right size body) where
           form = opened ∙ (rw (is-dump, e, drop-two body 7 (omega arith), version, ← x .0));
         }
 
--- what each order means
-pub data Meant (size : ℕ) (settings : Settings) (body : List ℕ) : Order → Type 0 where
-  identity : (cc : ℕ) → IsIdentity settings cc body → Meant size settings body (Identify cc)
-  asked : (t : Target) → IsRequest t body → Meant size settings body (sendOrder t)
-  dumped : (t : Target) → IsDump size t (join (drop (dataPlace (typeFor t)) body)) body → Meant size settings body (storeOrder t)
-  refused : (check : Check) → Meant size settings body (Refused check)
-
 module _ (size : ℕ) (settings : Settings) (body : List ℕ) where
   abbrev Means : Order → Type 0
   Means o = Meant size settings body o
@@ -160,7 +153,7 @@ module _ (size : ℕ) (settings : Settings) (body : List ℕ) where
 
   pub meant : Means (judgeOf size settings body)
   unfolding judgeOf
-  meant = tested-cases Means (testsOf size settings body) Refused (bodyOrder body) passed-meant (λ check _. refused check)
+  meant = tested-cases Means (testsOf size settings body) Refused (bodyOrder body) passed-meant (λ check _. unsaid check)
 
 -- what an order needs of its body to be carried out
 module _ (size : ℕ) (settings : Settings) (body : List ℕ) where
@@ -177,7 +170,7 @@ module _ (size : ℕ) (settings : Settings) (body : List ℕ) where
   fits o (dumped (One p) d) = (d .there, has-data (One p) _ d)
   fits o (dumped Edit d) = has-data Edit _ d
   fits o (dumped All d) = has-data All _ d
-  fits o (refused check) = tt
+  fits o (unsaid check) = tt
 
   pub judged-fits : Fits size (judgeOf size settings body) body
   judged-fits = fits (judgeOf size settings body) (meant size settings body)

@@ -3,14 +3,16 @@ use Prim.Native.Nat.{ℕ, _≤_}
 use mathlib.Core.Bool.{true}
 use mathlib.Core.List.{List}
 use mathlib.Core.Path.{_≡_}
-use lib.ListN.{length}
+use lib.ListN.{length, drop}
 use Rattle.ground.specs.Lists.{allAtMost}
+use Rattle.halves.specs.HalfBytes.{join}
 use Rattle.programs.specs.Memory.{lastProgram}
 use Rattle.programs.specs.Held.{Target, One, Edit, All, countFor}
 use Rattle.sysex.specs.declared.Settings.{Settings}
+use Rattle.sysex.specs.declared.Check.{Check}
 use Rattle.sysex.specs.declared.Order.{Order}
-use Rattle.sysex.specs.declared.Order.the-variants.{SendProgram, SendEdit, SendAll, StoreProgram, StoreEdit, StoreAll}
-use Rattle.sysex.specs.Forms.{requestBody, dumpBody, identityBody, isOurChannel}
+use Rattle.sysex.specs.declared.Order.the-variants.{Identify, SendProgram, SendEdit, SendAll, StoreProgram, StoreEdit, StoreAll, Refused}
+use Rattle.sysex.specs.Forms.{typeFor, dataPlace, requestBody, dumpBody, identityBody, isOurChannel}
 
 -- the program is one of the 36
 abbrev pub There : Target → Type 0
@@ -44,3 +46,10 @@ abbrev pub storeOrder : Target → Order
 storeOrder (One p) = StoreProgram p
 storeOrder Edit = StoreEdit
 storeOrder All = StoreAll
+
+-- what an order says of a body: it is of the order's format; of a refusal nothing is said
+pub data Meant (size : ℕ) (settings : Settings) (body : List ℕ) : Order → Type 0 where
+  identity : (cc : ℕ) → IsIdentity settings cc body → Meant size settings body (Identify cc)
+  asked : (t : Target) → IsRequest t body → Meant size settings body (sendOrder t)
+  dumped : (t : Target) → IsDump size t (join (drop (dataPlace (typeFor t)) body)) body → Meant size settings body (storeOrder t)
+  unsaid : (check : Check) → Meant size settings body (Refused check)

@@ -72,6 +72,12 @@ wholeLength size opcode type = bodyLength size opcode type + 1
 abbrev pub longest : ℕ → ℕ
 longest size = dataPlace all + dataCount size all + 1
 
+-- the column "Whole length" of the table of forms, in its order
+abbrev pub wholeLengths : ℕ → List ℕ
+wholeLengths size =
+    wholeLength size request program ∷ wholeLength size request edit ∷ wholeLength size request all
+    ∷ wholeLength size dump program ∷ wholeLength size dump edit ∷ wholeLength size dump all ∷ []
+
 -- the type of what is named, and "pp"
 abbrev pub typeFor : Target → ℕ
 typeFor (One p) = program

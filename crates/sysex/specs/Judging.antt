@@ -13,7 +13,7 @@ use Rattle.sysex.specs.declared.Check.{Check}
 use Rattle.sysex.specs.declared.Check.the-variants.{Ours, OpcodeAndType, Length, Program, Version, HalfBytes, Channel}
 use Rattle.sysex.specs.declared.Order.{Order}
 use Rattle.sysex.specs.declared.Order.the-variants.{Identify, SendProgram, SendEdit, SendAll, StoreProgram, StoreEdit, StoreAll, Refused}
-use Rattle.sysex.specs.Forms.{header, begins, opcodeOf, typeOf, programOf, request, program, edit, version, versionPlace, dataPlace, bodyLength, wholeLength, isIdentity, isOurChannel}
+use Rattle.sysex.specs.Forms.{header, begins, opcodeOf, typeOf, programOf, request, dump, program, edit, all, version, versionPlace, dataPlace, bodyLength, wholeLength, isIdentity, isOurChannel}
 
 -- an order, unless a check fails
 abbrev pub judgedBy : List (Test Check) → Order → Order
@@ -25,7 +25,7 @@ hasForm body = isIdentity body || begins header body
 
 -- 12 "opcode or type unknown or missing"
 abbrev pub isKnown : List ℕ → Bool
-isKnown body = leb 7 (length body) && (leb (opcodeOf body) 1 && leb (typeOf body) 2)
+isKnown body = leb 7 (length body) && (leb (opcodeOf body) dump && leb (typeOf body) all)
 
 -- 13 "wrong length"
 abbrev pub hasLength : ℕ → List ℕ → Bool

@@ -4,7 +4,7 @@ ghost use Prim.Native.Nat.{_≤_, _+_, _*_};
 ghost use lib.ListN.{length, drop};
 ghost use Rattle.ground.specs.Calls.{left, leaves};
 ghost use Rattle.halves.specs.HalfBytes.{join};
-ghost use Rattle.programs.specs.Memory.{memorySize, putPart};
+ghost use Rattle.programs.specs.Memory.{allSize, memorySize, putPart};
 ghost use Rattle.programs.specs.Held.{heldOf};
 ghost use Rattle.sysex.specs.Forms.{dataPlace, longest};
 ghost use Rattle.sysex.specs.Carrying.{orderDoes, carryOf};
@@ -89,7 +89,7 @@ fn answer(
     memory: &[u8],
     reply: &mut [u8],
 ) -> Answer
-    requires { ⌜ (length (now pp) ≤ 1) × (count ≤ 36 * 255) ⌝ }
+    requires { ⌜ (length (now pp) ≤ 1) × (count ≤ allSize 255) ⌝ }
     requires { ⌜ place + count ≤ length (now memory) ⌝ }
     requires { ⌜ 2 * count + (9 + length (now pp)) ≤ length (now reply) ⌝ }
     ensures { λ r. ⌜ left r (heldOf (now (memory .entry))) (now (reply .exit)) ≡ partSent typed (now (pp .entry)) place count (now (memory .entry)) (now (reply .entry)) ⌝ }

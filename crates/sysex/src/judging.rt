@@ -2,7 +2,8 @@
 ghost use mathlib.Core.Path.{_≡_};
 ghost use Prim.Native.Nat.{_≤_, _+_, _*_};
 ghost use lib.ListN.{length};
-ghost use Rattle.sysex.specs.Forms.{programOf, versionPlace, dataPlace, dataCount, bodyLength, isIdentity, isOurChannel};
+ghost use Rattle.programs.specs.Memory.{allSize};
+ghost use Rattle.sysex.specs.Forms.{programOf, versionPlace, dataPlace, dataCount, bodyLength, longest, isIdentity, isOurChannel};
 ghost use Rattle.sysex.specs.Judging.{judgedBy, identityTests, formTests, fieldTests, dataTests, hasProgram, orderOf, formOrder, judgeOf};
 use crate::Check;
 use crate::Order;
@@ -104,7 +105,7 @@ fn form_judged(body: &[u8], size: usize) -> Order
 // The length of a body of this opcode and type.
 fn body_length(size: usize, opcode: u8, typed: u8) -> usize
     requires { ⌜ size ≤ 255 ⌝ }
-    ensures { λ r. ⌜ (r ≡ bodyLength size opcode typed) × (r ≤ 72 * 255 + 9) ⌝ }
+    ensures { λ r. ⌜ (r ≡ bodyLength size opcode typed) × (r ≤ longest 255) ⌝ }
 {
     let version = version_place(typed);
     if opcode == REQUEST {
@@ -116,7 +117,7 @@ fn body_length(size: usize, opcode: u8, typed: u8) -> usize
 // How many half bytes a dump has.
 fn data_count(size: usize, typed: u8) -> usize
     requires { ⌜ size ≤ 255 ⌝ }
-    ensures { λ r. ⌜ (r ≡ dataCount size typed) × (r ≤ 72 * 255) ⌝ }
+    ensures { λ r. ⌜ (r ≡ dataCount size typed) × (r ≤ 2 * allSize 255) ⌝ }
 {
     if typed == ALL {
         2 * (PROGRAMS * size)

@@ -5,6 +5,7 @@ use mathlib.Core.Path.{ap, _∙_}
 use lib.ListN.{take, drop}
 use borrow.Author.Tests.{le-leb}
 use Rattle.ground.proofs.Tests.{tests}
+use Rattle.programs.specs.Memory.{programSize}
 use Rattle.controls.specs.Showing.{backOf}
 use Rattle.costerbloom.specs.Numbers.{memoryBack}
 use borrow.Author.Needs.{needs}
@@ -21,7 +22,7 @@ returns-2 c =
     let a = c .before .before .before .before .before .args in
     rw (le-leb _ _ (c .before .before .before .if1 .left))
     (c .show-back .ensures
-    ∙ ap (λ (place : ℕ). backOf (a .controller) (take (place + 72 - place) (drop place (now (a .memory))))) (c .before .before .edit-place .ensures))
+    ∙ ap (λ (place : ℕ). backOf (a .controller) (take (place + programSize - place) (drop place (now (a .memory))))) (c .before .before .edit-place .ensures))
 
 pub back-spec : {M : Type 1} → statement M
 back-spec =

@@ -5,7 +5,7 @@ use mathlib.Core.List.{List, []}
 use mathlib.Core.Path.{ap, _∙_}
 use lib.ListN.{take, drop}
 use Rattle.ground.specs.Calls.{outcome}
-use Rattle.programs.specs.Memory.{putPart}
+use Rattle.programs.specs.Memory.{programSize, putPart}
 use Rattle.programs.specs.Held.{heldOf}
 use Rattle.controls.specs.Applying.{Changed, applyOf}
 use Rattle.sysex.specs.Carrying.{Outcome}
@@ -16,7 +16,7 @@ use Rattle.podbox.proofs.channel.controller.Tie as tie
 
 -- the edit buffer from a place on, changed
 abbrev put : List ℕ → ℕ → Changed → Outcome
-put memory place done = outcome (changeAnswer (done .answer)) (heldOf (putPart place (place + 72 - place) (done .edit) memory)) []
+put memory place done = outcome (changeAnswer (done .answer)) (heldOf (putPart place (place + programSize - place) (done .edit) memory)) []
 
 returns : tie.Need-returns
 returns c =
@@ -24,7 +24,7 @@ returns c =
     let e = c .before .before .before .before .before .edit-place in
     rw (c .change-answer .ensures)
     (ap (put (now (a .memory)) (e .result)) (c .before .before .before .apply .ensures)
-    ∙ ap (λ (place : ℕ). put (now (a .memory)) place (applyOf (a .number) (a .value) (take (place + 72 - place) (drop place (now (a .memory)))))) (e .ensures))
+    ∙ ap (λ (place : ℕ). put (now (a .memory)) place (applyOf (a .number) (a .value) (take (place + programSize - place) (drop place (now (a .memory)))))) (e .ensures))
 
 pub controller-spec : {M : Type 1} → statement M
 controller-spec =
