@@ -4,7 +4,7 @@ use mathlib.Core.List.{List, []}
 use mathlib.Core.Path.{_≡_, refl, sym, subst, _∙_}
 use native.Mathlib.Omega.{arith}
 use lib.Dec.{eqb}
-use lib.ListN.{length, getD, replicate, length-replicate, getD-replicate, List·getD-append}
+use lib.ListN.{getD, replicate, length-replicate, getD-replicate, List·getD-append}
 use Rattle.ground.specs.Tests.{Test, tested}
 use Rattle.ground.specs.Calls.{left, leaves}
 use Rattle.ground.proofs.Tests.{by}

@@ -1,15 +1,14 @@
 -- What carrying out a message can do to what the box holds and to the reply: it stores, sends, applies or refuses, and nothing else.
-use Prim.Native.Nat.{ℕ, _+_, _≤_}
+use Prim.Native.Nat.{ℕ, _≤_}
 use mathlib.Core.List.{List, []}
-use mathlib.Core.Path.{_≡_, refl, ap, _∙_}
+use mathlib.Core.Path.{_≡_, _∙_}
 use native.Mathlib.Omega.{arith}
-use lib.ListN.{length, drop, length-take, length-drop, length-append, take-append-drop}
+use lib.ListN.{length, drop, length-take, length-drop, take-append-drop}
 use Rattle.ground.specs.Calls.{outcome}
 use Rattle.ground.proofs.Tests.{by}
 use Rattle.halves.specs.HalfBytes.{join}
-use Rattle.halves.proofs.Laws.{length-split}
 use Rattle.programs.specs.Memory.{programSize, memorySize, partOf, putPart}
-use Rattle.programs.specs.Held.{Held, heldOf, Target, One, Edit, All, placeFor, countFor, bytesIn}
+use Rattle.programs.specs.Held.{Held, heldOf, Edit, placeFor, countFor, bytesIn}
 use Rattle.programs.proofs.Parts.{put-length}
 use Rattle.controls.specs.Table.{rowOf}
 use Rattle.controls.specs.Applying.{Changed, storeRow}

@@ -4,16 +4,14 @@ use mathlib.Core.List.{List}
 use mathlib.Core.Path.{_≡_, refl, sym, ap, _∙_}
 use native.Mathlib.Omega.{arith}
 use lib.ListN.{length}
-use Rattle.ground.specs.Tests.{AllHold}
-use Rattle.ground.specs.Calls.{leaves}
 use Rattle.programs.specs.Memory.{programSize, memorySize}
 use Rattle.programs.specs.Held.{Held, Target, placeFor, countFor, bytesIn, storeIn}
 use Rattle.programs.proofs.Parts.{part-put}
 use Rattle.sockets.specs.Framer.{SysEx}
 use Rattle.sysex.specs.declared.Settings.{Settings}
 use Rattle.sysex.specs.Forms.{requestBody, dumpBody, ended}
-use Rattle.sysex.specs.Carrying.{Outcome, bodyDoes, sending, answering}
-use Rattle.sysex.specs.Formats.{There, IsDump}
+use Rattle.sysex.specs.Carrying.{Outcome, sending}
+use Rattle.sysex.specs.Formats.{IsDump}
 use Rattle.podbox.specs.Messages.{messageDoes}
 use Rattle.podbox.specs.Whole.{handedDoes}
 use Rattle.demands.proofs.Forms.{named-inside, dump-opens, request-opens, ended-does}

@@ -26,7 +26,6 @@ use Rattle.sysex.specs.declared.Answer.the-variants.{Taken, Stored, Sent, Appli
 use Rattle.sysex.specs.Forms.{longest}
 use Rattle.sysex.specs.Numbers.{refused, answerNumber, answerLength}
 use Rattle.sysex.specs.Carrying.{Outcome, Left}
-use Rattle.podbox.specs.Messages.{messageDoes}
 use Rattle.podbox.specs.Box.{Took, limit, panel, boxRules, takeOf, wholeOf}
 use Rattle.demands.specs.Answered.{OnePlace, Answered, AnsweredWhole}
 use Rattle.demands.proofs.Passed.{take-cases, whole-cases}

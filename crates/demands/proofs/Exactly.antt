@@ -1,7 +1,6 @@
 -- A SysEx is stored exactly when it is a dump, answered exactly when it is a request or an identity request that is ours: handed over whole, and
 -- finished on a socket.
 use Prim.Native.Nat.{ℕ}
-use mathlib.Core.Bool.{true}
 use mathlib.Core.List.{List, [], _∷_}
 use mathlib.Core.Logic.{_⊎_, inl, inr, ⊎-elim}
 use mathlib.Core.Path.{_≡_, refl, sym, ap, subst, _∙_}

@@ -2,7 +2,7 @@
 use Prim.Native.Nat.{ℕ, _+_, _≤_}
 use mathlib.Core.Bool.{true}
 use mathlib.Core.List.{List, [], _∷_}
-use mathlib.Core.Path.{_≡_, refl, ap, _∙_}
+use mathlib.Core.Path.{_≡_, refl, ap}
 use native.Mathlib.Omega.{arith}
 use lib.ListN.{length, drop, length-append}
 use borrow.Author.Tests.{le-ltb, le-leb}
@@ -16,7 +16,7 @@ use Rattle.programs.specs.Memory.{programSize, memorySize}
 use Rattle.programs.specs.Held.{Held, Target, One, Edit, All, placeFor, countFor}
 use Rattle.sysex.specs.declared.Settings.{Settings}
 use Rattle.sysex.specs.declared.Order.the-variants.{Refused}
-use Rattle.sysex.specs.Forms.{typeFor, dataPlace, longest, requestBody, dumpBody, identityBody, ended}
+use Rattle.sysex.specs.Forms.{typeFor, dataPlace, longest, requestBody, dumpBody, ended}
 use Rattle.sysex.specs.Judging.{hasForm, bodyOrder}
 use Rattle.sysex.specs.Carrying.{orderDoes, bodyDoes, answering, storing}
 use Rattle.sysex.specs.Formats.{There, IsDump, IsRequest, IsIdentity, sendOrder, storeOrder, Meant, unsaid}

@@ -6,13 +6,13 @@ use mathlib.Core.Path.{_≡_, refl, sym, ap, _∙_}
 use native.Mathlib.Omega.{arith}
 use lib.ListN.{length, length-take, length-drop}
 use borrow.Author.Tests.{le-leb, leb-true}
-use Rattle.ground.specs.Tests.{Test, tested, AllHold, FirstToFail, renamed}
+use Rattle.ground.specs.Tests.{Test, tested, FirstToFail, renamed}
 use Rattle.ground.specs.Calls.{left}
 use Rattle.ground.proofs.InOrder.{tested-map, tested-renamed, tested-append, tested-when, tested-failed, tested-exactly}
 use Rattle.programs.specs.Memory.{programSize, memorySize}
 use Rattle.programs.specs.Held.{Held, Edit, bytesIn}
 use Rattle.controls.specs.Table.{rowOf}
-use Rattle.controls.specs.Applying.{Changed, changed, applyTests, unchanged, storeRow, applyOf}
+use Rattle.controls.specs.Applying.{Changed, changed, applyTests, unchanged, storeRow}
 use Rattle.controls.specs.declared.Change.the-variants as change
 use Rattle.controls.proofs.Controllers.{applied-tested}
 use Rattle.framing.specs.declared.Receiver.{Receiver}
@@ -31,7 +31,7 @@ use Rattle.sysex.specs.Judging.{testsOf, judgedBy, bodyOrder, judgeOf}
 use Rattle.sysex.specs.Carrying.{Outcome, Left, refusing, orderDoes}
 use Rattle.sysex.proofs.Numbered.{passed-done, done-not-refused}
 use Rattle.podbox.specs.Messages.{channelTests, changeAnswer, controllerDoes, channelDoes, messageDoes}
-use Rattle.podbox.specs.Whole.{bodyOf, messageTests, messageOrder, handedDoes}
+use Rattle.podbox.specs.Whole.{bodyOf, messageTests, messageOrder}
 use Rattle.podbox.specs.Box.{Took, limit, panel, plainAnswer, boxRules, takeTests, wholeTests, takeOf, wholeOf}
 use Rattle.podbox.proofs.Taking.{sender}
 use Rattle.demands.specs.Order.{moveTests, finishTests, byteTests, panelTests}

@@ -1,11 +1,11 @@
 -- What a call does where none of its tests fails, and that a test that fails is one of 30, 31 and 32.
 use Prim.Native.Nat.{ℕ, _≤_}
 use mathlib.Core.List.{List}
-use mathlib.Core.Path.{_≡_, ap}
+use mathlib.Core.Path.{_≡_}
 use native.Mathlib.Omega.{arith}
-use Rattle.ground.specs.Tests.{AllHold, FirstToFail}
+use Rattle.ground.specs.Tests.{AllHold}
 use Rattle.ground.specs.Calls.{left, leaves}
-use Rattle.ground.proofs.InOrder.{Names, first-named, tested-cases, tested-passed}
+use Rattle.ground.proofs.InOrder.{first-named, tested-cases, tested-passed}
 use Rattle.programs.specs.Held.{Held}
 use Rattle.framing.specs.declared.Receiver.{Receiver}
 use Rattle.framing.specs.Bytes.{stepOf}

@@ -16,7 +16,7 @@ use Rattle.framing.specs.Bytes.{stepOf}
 use Rattle.framing.proofs.Keeps.{keeps-sound}
 use Rattle.sockets.specs.Framer.{Message, Happening, Nothing, Cut, Finished}
 use Rattle.sockets.specs.Calls.{Socket, S0, S1, Call, Byte, Direct, FromSocket, ifSame, handing}
-use Rattle.sockets.specs.Box.{Rules, LentOf, lent, CallsOf, FinishesOf, SaidsOf, Lawful, turnedAway, heldAfter, effect, effectDirect}
+use Rattle.sockets.specs.Box.{Rules, lent, CallsOf, FinishesOf, SaidsOf, Lawful, turnedAway, heldAfter, effect, effectDirect}
 use Rattle.sockets.specs.Promise.{happeningOf, bufferAfter, socketNumber, socketOf, takes, stepDoes, byteOf, directOf}
 use Rattle.sockets.specs.History.{WorldOf, lends, back, backDirect, History, nothing, byte, direct}
 use Rattle.sockets.specs.Demand.{Sound, Roomy}

@@ -4,12 +4,12 @@ use mathlib.Core.Path.{_≡_, refl, sym, ap, _∙_}
 use mathlib.Core.List.{List, [], _∷_, _++_}
 use native.Mathlib.Omega.{arith}
 use lib.ListN.{length}
-use Rattle.sockets.specs.Framer.{Happening, Framer, Idle, hears}
-use Rattle.sockets.specs.Calls.{Socket, S0, S1, Call, Byte, Direct, stands, bytesOf, ofSocket, finishing, handing, finishes}
+use Rattle.sockets.specs.Framer.{Framer, Idle, hears}
+use Rattle.sockets.specs.Calls.{Socket, S0, S1, Call, Byte, Direct, stands, bytesOf, ofSocket, finishes}
 use Rattle.sockets.specs.Box.{Rules, TookOf, CallsOf, FinishesOf, SaidsOf, Lawful, sentOf, finishedBy, heldAfter, saidsOf}
 use Rattle.sockets.specs.Promise.{socketNumber}
 use Rattle.sockets.specs.History.{WorldOf, lends, back, backDirect, History, nothing, byte, direct, finishedAlong}
-use Rattle.sockets.specs.Demand.{Independent, Fresh, Sound, Demand3, FromSound, NoEffect}
+use Rattle.sockets.specs.Demand.{Independent, Demand3, FromSound, NoEffect}
 use Rattle.sockets.proofs.Agree.{Agrees, none, same}
 use Rattle.sockets.proofs.Start.{sound-agrees}
 use Rattle.sockets.proofs.Alone.{stands-byte, stands-direct, alone}

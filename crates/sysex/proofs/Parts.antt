@@ -1,5 +1,5 @@
 -- Laws of parts of memory that are lent: sent as a dump, or stored from one.
-use Prim.Native.Nat.{ℕ, _+_, _-_, _*_, _≤_}
+use Prim.Native.Nat.{ℕ, _+_, _-_, _≤_}
 use mathlib.Core.List.{List, _++_}
 use mathlib.Core.Path.{_≡_, ap, _∙_}
 use native.Mathlib.Nat.{add-sub-cancel-left, mul-le-mul-right}

@@ -15,9 +15,8 @@ use Rattle.ground.proofs.InOrder.{tested-cases}
 use Rattle.halves.specs.HalfBytes.{split, join}
 use Rattle.halves.proofs.Laws.{length-split, length-join, join-bytes, split-halves, split-join}
 use Rattle.sysex.specs.declared.Settings.{Settings}
-use Rattle.sysex.specs.declared.Check.{Check}
 use Rattle.sysex.specs.declared.Order.{Order}
-use Rattle.sysex.specs.declared.Order.the-variants.{Identify, Refused}
+use Rattle.sysex.specs.declared.Order.the-variants.{Refused}
 use Rattle.programs.specs.Held.{Target, One, Edit, All, countFor}
 use Rattle.sysex.specs.Forms.{header, begins, opcodeOf, typeOf, programOf, request, program, edit, versionPlace, dataPlace, dataCount, bodyLength}
 use Rattle.sysex.specs.Forms.{typeFor, ppFor, requestBody, identityBody, isIdentity, isOurChannel}
