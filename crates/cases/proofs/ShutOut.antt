@@ -25,7 +25,7 @@ use Rattle.podbox.specs.Settings.{isValid, freshSettings, freshHeld}
 use Rattle.podbox.specs.Messages.{isHeard, isController, channelDoes, messageDoes}
 use Rattle.podbox.specs.Whole.{isFramed, messageOrder}
 use Rattle.podbox.specs.Box.{takeTests, wholeTests, wholeOf}
-use Rattle.cases.specs.Asking.{empty}
+use Rattle.cases.specs.Asking.{blank}
 use Rattle.cases.specs.ShutOut.{ByteCall, WholeCall, promised, ShutOut, ShutOutWhole, EndsSysEx, EndsChannel, Ends, Refuses, RefusesWhole, ReturnsZero, NeverWrites, NeverWritesWhole, WritesNone}
 
 -- a bad box is shut out if the promised one is not bad
@@ -41,10 +41,10 @@ model held = getD (held .memory) (editPlace programSize 0 + 8) 0
 
 -- what a fresh box is lent: controller 12, which writes byte 8, waits for its value; and a SysEx is open
 abbrev moving : Lent Held
-moving = lent (holdingOf 0xB0 12) freshHeld empty empty
+moving = lent (holdingOf 0xB0 12) freshHeld blank blank
 
 abbrev inside : List ℕ → Lent Held
-inside body = lent (openedOf (length body) 0) freshHeld (written body empty) empty
+inside body = lent (openedOf (length body) 0) freshHeld (written body blank) blank
 
 -- a dump to the edit buffer, and the request for it
 abbrev dumped : List ℕ
@@ -59,7 +59,7 @@ taken entry =
     let ts = takeTests freshSettings 0 entry in
     tested-cases (λ (t : Bool). t ≡ true → AllHold ts) ts (λ number. false) true (λ all e. all) (λ number f e. absurd (false≢true e))
 
-taken-whole : AllHold (wholeTests freshSettings freshHeld empty)
+taken-whole : AllHold (wholeTests freshSettings freshHeld blank)
 unfolding freshSettings freshHeld isValid
 taken-whole = (refl, (refl, (refl, tt)))
 
@@ -82,12 +82,11 @@ refuses-dumps =
 pub refuses-everything : ShutOut (Refuses Ends)
 refuses-everything box keeps bad = refuses-controllers box keeps (λ settings socket byte entry all ends. bad settings socket byte entry all (inr ends))
 
--- C0 cuts an open SysEx
 pub returns-zero : ShutOut ReturnsZero
-unfolding freshSettings freshHeld soundOf isWritten countRight runningRight waitingRight longIsFull takesOne takesTwo stepOf isValid stepDoes byteOf
+unfolding freshSettings freshHeld soundOf isWritten countRight runningRight waitingRight longIsFull takesOne takesTwo stepOf isValid stepDoes byteOf isHeard isController channelDoes messageDoes applyOf storeRow rowOf rows numberBy numberFor nextFor effectOf selections selected
 returns-zero =
     shut ReturnsZero (λ bad.
-    let z : _≡_ {A = ℕ} 4 0 = bad freshSettings 0 0xC0 (inside asking) (taken (inside asking) refl) in
+    let z : _≡_ {A = ℕ} 3 0 = bad freshSettings 0 27 moving (taken moving refl) (inr (0xB0, 12, 27, refl)) in
     omega (arith, z))
 
 -- controller 12 at 27 stands in byte 8
@@ -111,12 +110,12 @@ pub refuses-whole : ShutOutWhole RefusesWhole
 unfolding freshSettings freshHeld isValid directOf isFramed messageOrder bodyLength isIdentity hasForm hasProgram furtherTests bodyOrder orderOf orderDoes
 refuses-whole =
     shut-whole RefusesWhole (λ bad.
-    let z : 10 ≤ 1 = bad freshSettings (ended dumped) freshHeld empty taken-whole in
+    let z : 10 ≤ 1 = bad freshSettings (ended dumped) freshHeld blank taken-whole in
     omega (arith, z))
 
 pub never-writes-whole : ShutOutWhole NeverWritesWhole
 unfolding freshSettings freshHeld isValid directOf isFramed messageOrder bodyLength isIdentity hasForm hasProgram furtherTests bodyOrder orderOf orderDoes
 never-writes-whole =
     shut-whole NeverWritesWhole (λ bad.
-    let z : _≡_ {A = ℕ} 1 0 = ap model (bad freshSettings (ended dumped) freshHeld empty taken-whole) in
+    let z : _≡_ {A = ℕ} 1 0 = ap model (bad freshSettings (ended dumped) freshHeld blank taken-whole) in
     omega (arith, z))

@@ -14,7 +14,7 @@ use Rattle.programs.specs.Held.{Held}
 use Rattle.framing.specs.Bytes.{stepOf}
 use Rattle.sockets.specs.Framer.{Happening, Nothing, Cut, Finished}
 use Rattle.sockets.specs.Calls.{Socket}
-use Rattle.sockets.specs.Box.{Lent, lent, took, effect, effectDirect}
+use Rattle.sockets.specs.Box.{Lent, lent, took, happeningDoes, directDoes}
 use Rattle.sockets.specs.Promise.{happeningOf, socketNumber, socketOf, stepDoes, byteOf, directOf}
 use Rattle.sysex.specs.declared.Settings.{Settings}
 use Rattle.sysex.specs.declared.Answer.{Answer}
@@ -27,7 +27,7 @@ use Rattle.demands.proofs.Tells.{Tells, order-tells, message-tells}
 use Rattle.cases.specs.ShutOut.{promised, ShutOut, ShutOutWhole, Unwritten, leftBy, TellsUnwritten, TellsUnwrittenWhole}
 use Rattle.cases.proofs.ShutOut.{shut, shut-whole}
 
-happening-tells : (settings : Settings) (held : Held) (s : Socket) (h : Happening) → Tells (effect (boxRules settings) held s h)
+happening-tells : (settings : Settings) (held : Held) (s : Socket) (h : Happening) → Tells (happeningDoes (boxRules settings) held s h)
 happening-tells settings held s Nothing = refl
 happening-tells settings held s Cut = refl
 happening-tells settings held s (Finished m) = message-tells settings (socketNumber s) held m
@@ -61,7 +61,7 @@ module _ (k : ℕ) (o : Outcome) (held : Held) (tests : List ℕ → List (Test 
 
 -- what a byte does, and that its call leaves as much
 abbrev byteDoes : Settings → ℕ → ℕ → Lent Held → Outcome
-byteDoes settings socket byte entry = effect (boxRules settings) (entry .held) (socketOf socket) (happeningOf (stepOf limit (entry .receiver) byte .event) (entry .receive))
+byteDoes settings socket byte entry = happeningDoes (boxRules settings) (entry .held) (socketOf socket) (happeningOf (stepOf limit (entry .receiver) byte .event) (entry .receive))
 
 byte-left : (settings : Settings) (socket byte : ℕ) (entry : Lent Held)
     → leftBy (promised settings socket byte entry) ≡ behind (byteDoes settings socket byte entry) (entry .held) (λ reply. takeTests settings socket entry) (entry .reply)
@@ -83,5 +83,5 @@ unfolding directOf
 unwritten-whole =
     shut-whole TellsUnwrittenWhole (λ bad.
     let (settings, message, held, k, call) = bad in
-    never-unwritten k (effectDirect (boxRules settings) held message) held (wholeTests settings held)
+    never-unwritten k (directDoes (boxRules settings) held message) held (wholeTests settings held)
     (order-tells settings panel held (messageOrder settings message) (bodyOf message)) call)

@@ -21,8 +21,8 @@ abbrev pub zeros : ℕ → List ℕ
 zeros count = replicate count 0
 
 -- a receive or a reply buffer of zeros, as long as is asked
-abbrev pub empty : List ℕ
-empty = zeros (longest programSize)
+abbrev pub blank : List ℕ
+blank = zeros (longest programSize)
 
 abbrev pub travels : ℕ → List ℕ
 travels byte = split (byte ∷ [])
@@ -53,7 +53,7 @@ numbersOf (byte ∷ bytes) receiver held receive reply =
     answerNumber (l .answer) ∷ numbersOf bytes (l .receiver) (l .held) (l .receive) (l .reply)
 
 abbrev pub called : List ℕ → List ℕ
-called bytes = numbersOf bytes fresh freshHeld empty empty
+called bytes = numbersOf bytes fresh freshHeld blank blank
 
 abbrev pub handed : List ℕ → List ℕ
-handed message = answerNumber (wholeOf freshSettings message freshHeld empty .answer) ∷ []
+handed message = answerNumber (wholeOf freshSettings message freshHeld blank .answer) ∷ []

@@ -65,14 +65,14 @@ Ends event = EndsSysEx event ⊎ EndsChannel event
 
 -- "a box that refuses everything": every byte that finishes a message, or a message of one kind
 abbrev pub Refuses : (Event → Type 0) → ByteCall → Type 0
-Refuses Kind box = Always box (λ byte entry done. Kind (stepOf limit (entry .receiver) byte .event) → 10 ≤ answerNumber (done .answer))
+Refuses Ending box = Always box (λ byte entry done. Ending (stepOf limit (entry .receiver) byte .event) → 10 ≤ answerNumber (done .answer))
 
 abbrev pub RefusesWhole : WholeCall → Type 0
 RefusesWhole box = AlwaysWhole box (λ held done. 10 ≤ answerNumber (done .answer))
 
--- "one that returns 0 for every byte"
+-- "one that returns 0 for every byte", every byte that finishes a message among them
 abbrev pub ReturnsZero : ByteCall → Type 0
-ReturnsZero box = Always box (λ byte entry done. answerNumber (done .answer) ≡ 0)
+ReturnsZero box = Always box (λ byte entry done. Ends (stepOf limit (entry .receiver) byte .event) → answerNumber (done .answer) ≡ 0)
 
 -- "one that never writes memory"
 abbrev pub NeverWrites : ByteCall → Type 0

@@ -1,6 +1,6 @@
 -- A controller into the edit buffer.
 use Prim.Native.Nat.{ℕ}
-use mathlib.Core.List.{List, [], _∷_}
+use mathlib.Core.List.{List, _∷_}
 use Rattle.ground.specs.Tests.{Test, tested}
 use Rattle.controls.specs.declared.Row.{Row}
 use Rattle.controls.specs.declared.Change.{Change}
@@ -8,7 +8,7 @@ use Rattle.controls.specs.declared.Change.the-variants.{Applied, Refused
 use Rattle.controls.specs.Formulas.{nextFor}
 use Rattle.controls.specs.Table.{rowOf}
 use Rattle.controls.specs.Fields.{numberIn, putAt}
-use Rattle.controls.specs.Refusals.{editTest, listedTest, rangeTest, selectedTest}
+use Rattle.controls.specs.Refusals.{editTest, moveTests}
 
 -- what a call leaves: its answer, and the edit buffer
 pub record Changed : Type 0 where
@@ -24,7 +24,7 @@ storeRow r value edit = putAt (r .width) (r .place) (nextFor r value (numberIn r
 
 -- 30, then "17, 18, 19"
 abbrev pub applyTests : Row → ℕ → List ℕ → List (Test ℕ)
-applyTests r value edit = editTest edit ∷ listedTest r ∷ rangeTest r value ∷ selectedTest r edit ∷ []
+applyTests r value edit = editTest edit ∷ moveTests r value edit
 
 -- a refusal changes nothing
 abbrev pub unchanged : List ℕ → ℕ → Changed

@@ -1,7 +1,7 @@
 -- The tests that a controller, its value and the edit buffer are put to, each under its number.
 use Prim.Native.Nat.{ℕ}
 use mathlib.Core.Bool.{not}
-use mathlib.Core.List.{List}
+use mathlib.Core.List.{List, [], _∷_}
 use lib.Dec.{eqb, leb}
 use lib.ListN.{length, getD}
 use Rattle.ground.specs.Tests.{Test, test}
@@ -24,3 +24,7 @@ rangeTest r value = test 18 (leb value (r .highest))
 -- 19 "its effect is not selected": "Byte 46 selects"
 abbrev pub selectedTest : Row → List ℕ → Test ℕ
 selectedTest r edit = test 19 (selected (r .effect) (getD edit 46 0))
+
+-- "17, 18, 19"
+abbrev pub moveTests : Row → ℕ → List ℕ → List (Test ℕ)
+moveTests r value edit = listedTest r ∷ rangeTest r value ∷ selectedTest r edit ∷ []

@@ -3,13 +3,13 @@ use Prim.Native.Nat.{ℕ, _≤_}
 use mathlib.Core.List.{List, []}
 use mathlib.Core.Path.{_≡_, _∙_}
 use native.Mathlib.Omega.{arith}
-use lib.ListN.{length, drop, length-take, length-drop, take-append-drop}
+use lib.ListN.{length, drop, length-take, length-drop}
 use Rattle.ground.specs.Calls.{outcome}
 use Rattle.ground.proofs.Tests.{by}
 use Rattle.halves.specs.HalfBytes.{join}
-use Rattle.programs.specs.Memory.{programSize, memorySize, partOf, putPart}
+use Rattle.programs.specs.Memory.{programSize, memorySize, putPart}
 use Rattle.programs.specs.Held.{Held, heldOf, Edit, placeFor, countFor, bytesIn}
-use Rattle.programs.proofs.Parts.{put-length}
+use Rattle.programs.proofs.Parts.{put-length, put-same}
 use Rattle.controls.specs.Table.{rowOf}
 use Rattle.controls.specs.Applying.{Changed, storeRow}
 use Rattle.controls.proofs.Controllers.{apply-cases, store-length}
@@ -34,10 +34,6 @@ pub data Tame (held : Held) : Outcome → Type 0 where
   sends : (bytes : List ℕ) → length bytes ≤ longest programSize → Tame held (outcome (Sent (length bytes)) held bytes)
   applies : (after : Held) → length (after .memory) ≡ length (held .memory) → Tame held (outcome Applied after [])
   refuses : (number : ℕ) → 10 ≤ number → number ≤ 22 → Tame held (outcome (refused number) held [])
-
--- a part that is put back as it was
-pub put-same : (place count : ℕ) (memory : List ℕ) → putPart place count (partOf place count memory) memory ≡ memory
-put-same place count memory = rw (take-append-drop count (drop place memory)) (take-append-drop place memory)
 
 module _ (settings : Settings) (player : ℕ) (held : Held) (m : memorySize programSize ≤ length (held .memory)) where
   order-tame : (body : List ℕ) (o : Order) → Meant programSize settings body o → Tame held (orderDoes programSize settings player o body held)

@@ -21,13 +21,18 @@ use Rattle.sockets.specs.Framer.{SysEx, TooLong, Channel}
 use Rattle.sockets.specs.Box.{lent, took}
 use Rattle.sockets.specs.Promise.{socketNumber, socketOf, stepDoes}
 use Rattle.sysex.specs.declared.Settings.{Settings}
+use Rattle.sysex.specs.declared.Order.{Order}
+use Rattle.sysex.specs.declared.Order.the-variants as order
+use Rattle.sysex.specs.declared.Check.{Check}
+use Rattle.sysex.specs.declared.Check.the-variants as check
 use Rattle.sysex.specs.declared.Answer.{Answer}
 use Rattle.sysex.specs.declared.Answer.the-variants.{Taken, Stored, Sent, Applied, Cut, Refused}
-use Rattle.sysex.specs.Forms.{longest}
-use Rattle.sysex.specs.Numbers.{refused, answerNumber, answerLength}
+use Rattle.sysex.specs.Numbers.{answerNumber, answerLength, checkNumber, orderNumber}
 use Rattle.sysex.specs.Carrying.{Outcome, Left}
-use Rattle.podbox.specs.Box.{Took, limit, panel, boxRules, takeOf, wholeOf}
-use Rattle.demands.specs.Answered.{OnePlace, Answered, AnsweredWhole}
+use Rattle.sysex.proofs.Numbered.{does-number}
+use Rattle.podbox.specs.Whole.{bodyOf, messageOrder}
+use Rattle.podbox.specs.Box.{limit, panel, boxRules, takeOf, wholeOf}
+use Rattle.demands.specs.Answered.{ByteNumber, PanelNumber, Keeps, OnePlace, Answered, AnsweredWhole}
 use Rattle.demands.proofs.Passed.{take-cases, whole-cases}
 use Rattle.demands.proofs.Carried.{Tame, stores, sends, applies, refuses, message-tame, handed-tame}
 
@@ -40,74 +45,89 @@ length-zero Applied n = refl
 length-zero Cut n = refl
 length-zero (Refused refusal) n = refl
 
--- an answer that is no refusal leaves what is behind the reply, and the length of memory
-whole-accepted : (held : Held) (reply : List ℕ) (answer : Answer) (after : Held) (sent : List ℕ) → answerNumber answer ≤ 4 → answerLength answer ≤ longest programSize
-    → drop (answerLength answer) sent ≡ drop (answerLength answer) reply → length (after .memory) ≡ length (held .memory) → AnsweredWhole held reply (left answer after sent)
-whole-accepted held reply answer after sent small short behind kept = record {
-  numbered = inl small;
-  refused = λ h. absurd (omega arith);
-  behind = behind;
-  fits = short;
-  length-kept = kept;
-}
+-- where nothing changes
+unchanged : (held : Held) (reply : List ℕ) (answer : Answer) → answerLength answer ≡ 0 → Keeps held reply (left answer held reply)
+unchanged held reply answer none = record { refused = λ _. (refl, refl); kept = λ _ _. refl; behind = refl; fits = omega arith; length-kept = refl }
 
 -- what was carried out
-tame-answered : (held : Held) (reply : List ℕ) (o : Outcome) → Tame held o → AnsweredWhole held reply (leaves o reply)
-tame-answered held reply o (stores after e) = whole-accepted held reply Stored after reply (omega arith) (omega arith) refl e
-tame-answered held reply o (sends bytes short) =
-    whole-accepted held reply (Sent (length bytes)) held (written bytes reply) (omega arith) short (drop-append-seam bytes (drop (length bytes) reply)) refl
-tame-answered held reply o (applies after e) = whole-accepted held reply Applied after reply (omega arith) (omega arith) refl e
-tame-answered held reply o (refuses number lo hi) =
-    record { numbered = inr (inl (lo, hi)); refused = λ _. (refl, refl); behind = refl; fits = omega arith; length-kept = refl }
+tame-keeps : (held : Held) (reply : List ℕ) (o : Outcome) → Tame held o → Keeps held reply (leaves o reply)
+tame-keeps held reply o (stores after e) = record { refused = λ h. absurd (omega arith); kept = λ n _. absurd (n refl); behind = refl; fits = omega arith; length-kept = e }
+tame-keeps held reply o (sends bytes short) =
+    record { refused = λ h. absurd (omega arith); kept = λ _ _. refl; behind = drop-append-seam bytes (drop (length bytes) reply); fits = short; length-kept = refl }
+tame-keeps held reply o (applies after e) = record { refused = λ h. absurd (omega arith); kept = λ _ n. absurd (n refl); behind = refl; fits = omega arith; length-kept = e }
+tame-keeps held reply o (refuses number lo hi) = unchanged held reply _ refl
 
-tame-below : (held : Held) (o : Outcome) → Tame held o → 30 ≤ answerNumber (o .answer) → ⊥
-tame-below held o (stores after e) h = omega arith
-tame-below held o (sends bytes short) h = omega arith
-tame-below held o (applies after e) h = omega arith
-tame-below held o (refuses number lo hi) h = omega arith
+tame-numbered : (held : Held) (o : Outcome) → Tame held o → ByteNumber (answerNumber (o .answer)) × (answerNumber (o .answer) ≤ 22)
+tame-numbered held o (stores after e) = (inl (omega arith), omega arith)
+tame-numbered held o (sends bytes short) = (inl (omega arith), omega arith)
+tame-numbered held o (applies after e) = (inl (omega arith), omega arith)
+tame-numbered held o (refuses number lo hi) = (inr (inl (lo, hi)), hi)
+
+-- the numbers of the panel's messages
+check-in : (c : Check) → PanelNumber (checkNumber c)
+check-in (check.TooLong most) = inr (inr (inl (omega arith, omega arith)))
+check-in check.Ours = inr (inr (inl (omega arith, omega arith)))
+check-in check.OpcodeAndType = inr (inr (inl (omega arith, omega arith)))
+check-in (check.Length right) = inr (inr (inl (omega arith, omega arith)))
+check-in (check.Program highest) = inr (inr (inl (omega arith, omega arith)))
+check-in (check.Version right) = inr (inr (inl (omega arith, omega arith)))
+check-in (check.HalfBytes highest) = inr (inr (inl (omega arith, omega arith)))
+check-in (check.Channel ours) = inr (inr (inr (inl refl)))
+
+order-in : (o : Order) → PanelNumber (orderNumber o)
+order-in (order.Identify channel) = inr (inl refl)
+order-in (order.SendProgram p) = inr (inl refl)
+order-in order.SendEdit = inr (inl refl)
+order-in order.SendAll = inr (inl refl)
+order-in (order.StoreProgram p) = inl refl
+order-in order.StoreEdit = inl refl
+order-in order.StoreAll = inl refl
+order-in (order.Refused check) = check-in check
 
 -- Every message of the panel.
 pub every-message : (settings : Settings) (message : List ℕ) (held : Held) (reply : List ℕ) → AnsweredWhole held reply (wholeOf settings message held reply)
 every-message settings message held reply =
     whole-cases settings message held reply (AnsweredWhole held reply)
-    (λ number lo hi. record { numbered = inr (inr (inl (lo, hi))); refused = λ _. (refl, refl); behind = refl; fits = omega arith; length-kept = refl })
-    (λ all. tame-answered held reply _ (handed-tame settings panel held (leb-true _ _ (all .0)) message))
+    (record { numbered = inr (inr (inr (inr (inl refl)))); keeps = unchanged held reply _ refl })
+    (record { numbered = inr (inr (inr (inr (inr refl)))); keeps = unchanged held reply _ refl })
+    (λ all. record {
+      numbered = rw (does-number programSize settings panel (bodyOf message) held (messageOrder settings message)) (order-in (messageOrder settings message));
+      keeps = tame-keeps held reply _ (handed-tame settings panel held (leb-true _ _ (all .0)) message);
+    })
 
 module _ (settings : Settings) (r : Receiver) (byte : ℕ) (held : Held) (receive reply : List ℕ) where
-  abbrev Good : Took → Type 0
-  Good = Answered r byte held receive reply
+  -- 0 to 22: the receiver has stepped
+  with-step : (place : List ℕ) (l : Left) → Keeps held reply l → ByteNumber (answerNumber (l .answer)) × (answerNumber (l .answer) ≤ 22) → OnePlace r byte receive place
+      → Answered r byte held receive reply (took (stepOf limit r byte .receiver) (l .answer) (l .held) place (l .reply))
+  with-step place l k n one =
+      let below = n .1 in
+      record { numbered = n .0; keeps = k; turned-away = λ h. absurd (omega arith); stepped = λ _. refl; placed = one }
 
-  -- 0 to 22: what is left to say beside the panel's is of the receive buffer
-  with-place : (next : Receiver) (place : List ℕ) (l : Left) → AnsweredWhole held reply l → (30 ≤ answerNumber (l .answer) → ⊥) → OnePlace r byte receive place
-      → Good (took next (l .answer) (l .held) place (l .reply))
-  with-place next place l a below one =
-      record { numbered = a .numbered; refused = a .refused; turned-away = λ h. absurd (below h); behind = a .behind; fits = a .fits; length-kept = a .length-kept; placed = one }
+  quiet : (answer : Answer) (place : List ℕ) → answerNumber answer ≤ 4 → answerLength answer ≡ 0 → OnePlace r byte receive place
+      → Answered r byte held receive reply (took (stepOf limit r byte .receiver) answer held place reply)
+  quiet answer place small none one = with-step place (left answer held reply) (unchanged held reply answer none) (inl small, omega arith) one
 
-  quiet : (next : Receiver) (answer : Answer) (place : List ℕ) → answerNumber answer ≤ 4 → answerLength answer ≡ 0 → OnePlace r byte receive place → Good (took next answer held place reply)
-  quiet next answer place small none one =
-      with-place next place (left answer held reply) (whole-accepted held reply answer held reply small (omega arith) refl refl) (λ h. omega arith) one
-
-  done : (next : Receiver) (o : Outcome) → Tame held o → Good (took next (o .answer) (o .held) receive (written (o .sent) reply))
-  done next o tame = with-place next receive (leaves o reply) (tame-answered held reply o tame) (tame-below held o tame) (inl refl)
+  done : (o : Outcome) → Tame held o → Answered r byte held receive reply (took (stepOf limit r byte .receiver) (o .answer) (o .held) receive (written (o .sent) reply))
+  done o tame = with-step receive (leaves o reply) (tame-keeps held reply o tame) (tame-numbered held o tame) (inl refl)
 
   module _ (socket : ℕ) where
-    event-answered : memorySize programSize ≤ length (held .memory) → (next : Receiver) (e : Event) → Belongs r byte e
-        → Good (stepDoes (boxRules settings) (socketOf socket) byte (lent r held receive reply) (record { receiver = next; event = e }))
+    event-answered : memorySize programSize ≤ length (held .memory) → (e : Event) → Belongs limit r byte e
+        → Answered r byte held receive reply (stepDoes (boxRules settings) (socketOf socket) byte (lent r held receive reply) (record { receiver = stepOf limit r byte .receiver; event = e }))
     unfolding stepDoes
-    event-answered m next event.Nothing b = quiet next Taken receive (omega arith) refl (inl refl)
-    event-answered m next (event.Collect place) b =
-        quiet next Taken (set receive place byte) (omega arith) refl
-        (⊎-elim (λ p. inr (inl (ap (λ (k : ℕ). set receive k byte) (p .0), p .1))) (λ p. inr (inr (ap (λ (k : ℕ). set receive k byte) (p .0), p .1))) b)
-    event-answered m next event.Cut b = quiet next Cut receive (omega arith) refl (inl refl)
-    event-answered m next event.CutAndOpen b = quiet next Cut (set receive 0 byte) (omega arith) refl (inr (inr (refl, b)))
-    event-answered m next event.TooLong b = done next _ (message-tame settings (socketNumber (socketOf socket)) held m TooLong)
-    event-answered m next (event.SysEx count) b = done next _ (message-tame settings (socketNumber (socketOf socket)) held m (SysEx (take count receive)))
-    event-answered m next (event.Channel status first second) b = done next _ (message-tame settings (socketNumber (socketOf socket)) held m (Channel status first second))
+    event-answered m event.Nothing b = quiet Taken receive (omega arith) refl (inl refl)
+    event-answered m (event.Collect place) b =
+        quiet Taken (set receive place byte) (omega arith) refl
+        (⊎-elim (λ p. inr (inl (ap (λ (k : ℕ). set receive k byte) (p .0), p .1, p .2, p .3))) (λ p. inr (inr (ap (λ (k : ℕ). set receive k byte) (p .0), p .1))) b)
+    event-answered m event.Cut b = quiet Cut receive (omega arith) refl (inl refl)
+    event-answered m event.CutAndOpen b = quiet Cut (set receive 0 byte) (omega arith) refl (inr (inr (refl, b)))
+    event-answered m event.TooLong b = done _ (message-tame settings (socketNumber (socketOf socket)) held m TooLong)
+    event-answered m (event.SysEx count) b = done _ (message-tame settings (socketNumber (socketOf socket)) held m (SysEx (take count receive)))
+    event-answered m (event.Channel status first second) b = done _ (message-tame settings (socketNumber (socketOf socket)) held m (Channel status first second))
 
     -- Every byte is answered, for every receiver, socket, byte, settings and buffers of any length.
-    pub every-byte : Good (takeOf settings socket r byte held receive reply)
+    pub every-byte : Answered r byte held receive reply (takeOf settings socket r byte held receive reply)
     every-byte =
-        take-cases settings socket r byte held receive reply Good
+        take-cases settings socket r byte held receive reply (Answered r byte held receive reply)
         (λ number lo hi.
-        record { numbered = inr (inr (inl (lo, hi))); refused = λ _. (refl, refl); turned-away = λ _. refl; behind = refl; fits = omega arith; length-kept = refl; placed = inl refl })
-        (λ all. event-answered (leb-true _ _ (all .0)) (stepOf limit r byte .receiver) (stepOf limit r byte .event) (belongs limit r byte))
+        record { numbered = inr (inr (lo, hi)); keeps = unchanged held reply _ refl; turned-away = λ _. refl; stepped = λ h. absurd (omega arith); placed = inl refl })
+        (λ all. event-answered (leb-true _ _ (all .0)) (stepOf limit r byte .event) (belongs limit r byte))

@@ -73,7 +73,7 @@ module _ (settings : Settings) (player : ℕ) (held : Held) where
   answered-order count body o (unsaid check) e = let z : _≡_ {A = ℕ} 0 1 = cc in absurd (omega arith)
 
   -- one body, whichever of them says that it is the message's
-  pub body-exactly : (body : List ℕ) → Exactly settings player held (λ b. b ≡ body) (Does body)
+  pub body-exactly : (body : List ℕ) → Exactly settings player held (λ b. b ≡ body) (bodyDoes programSize settings player body held)
   body-exactly body = record {
     stored = (
       (λ e. let d = stored-order body (judgeOf programSize settings body) (meant programSize settings body) e in (body, refl, d .0, d .1, d .2)),

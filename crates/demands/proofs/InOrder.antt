@@ -12,13 +12,14 @@ use Rattle.ground.proofs.InOrder.{tested-map, tested-renamed, tested-append, te
 use Rattle.programs.specs.Memory.{programSize, memorySize}
 use Rattle.programs.specs.Held.{Held, Edit, bytesIn}
 use Rattle.controls.specs.Table.{rowOf}
+use Rattle.controls.specs.Refusals.{moveTests}
 use Rattle.controls.specs.Applying.{Changed, changed, applyTests, unchanged, storeRow}
 use Rattle.controls.specs.declared.Change.the-variants as change
 use Rattle.controls.proofs.Controllers.{applied-tested}
 use Rattle.framing.specs.declared.Receiver.{Receiver}
 use Rattle.framing.specs.Bytes.{stepOf}
 use Rattle.sockets.specs.Framer.{Message, SysEx, TooLong, Channel, Happening, Nothing, Cut, Finished}
-use Rattle.sockets.specs.Box.{lent, took, effect}
+use Rattle.sockets.specs.Box.{lent, took, happeningDoes}
 use Rattle.sockets.specs.Promise.{happeningOf, socketNumber, socketOf, stepDoes, byteOf, directOf}
 use Rattle.sysex.specs.declared.Settings.{Settings}
 use Rattle.sysex.specs.declared.Order.{Order}
@@ -34,7 +35,7 @@ use Rattle.podbox.specs.Messages.{channelTests, changeAnswer, controllerDoes, c
 use Rattle.podbox.specs.Whole.{bodyOf, messageTests, messageOrder}
 use Rattle.podbox.specs.Box.{Took, limit, panel, plainAnswer, boxRules, takeTests, wholeTests, takeOf, wholeOf}
 use Rattle.podbox.proofs.Taking.{sender}
-use Rattle.demands.specs.Order.{moveTests, finishTests, byteTests, panelTests}
+use Rattle.demands.specs.Order.{finishTests, byteTests, panelTests}
 
 -- one list of tests in front of an answer that is no refusal
 in-order : (ts : List (Test ℕ)) (given done : Answer) (number : ℕ) → (done ≡ refused number → ⊥) → given ≡ tested ts refused done → (given ≡ refused number) ↔ FirstToFail ts number
@@ -71,7 +72,7 @@ module _ (settings : Settings) (player : ℕ) (held : Held) where
 
   module _ (m : memorySize programSize ≤ length (held .memory)) where
     -- a controller, where the edit buffer is all there
-    move-tested : (controller value : ℕ) → controllerDoes player controller value held .answer ≡ tested (moveTests controller value (bytesIn programSize player Edit held)) refused answer.Applied
+    move-tested : (controller value : ℕ) → controllerDoes player controller value held .answer ≡ tested (moveTests (rowOf controller) value (bytesIn programSize player Edit held)) refused answer.Applied
     move-tested controller value =
         let edit = bytesIn programSize player Edit held in
         let whole : programSize ≤ length edit = simp (length-take, length-drop) (omega arith) in
@@ -86,7 +87,7 @@ module _ (settings : Settings) (player : ℕ) (held : Held) where
     message-tested (Channel status first second) =
         tested-map (λ (o : Outcome). o .answer) (channelTests settings status) (refusing held) (controllerDoes player first second held)
         ∙ ap (tested (channelTests settings status) refused) (move-tested first second)
-        ∙ sym (tested-append (channelTests settings status) (moveTests first second (bytesIn programSize player Edit held)) refused answer.Applied)
+        ∙ sym (tested-append (channelTests settings status) (moveTests (rowOf first) second (bytesIn programSize player Edit held)) refused answer.Applied)
 
 -- The byte call: 30, 31, 32, then what the byte finishes.
 module _ (settings : Settings) (socket : ℕ) (r : Receiver) (byte : ℕ) (held : Held) (receive reply : List ℕ) where
@@ -94,7 +95,7 @@ module _ (settings : Settings) (socket : ℕ) (r : Receiver) (byte : ℕ) (held 
   happening = happeningOf (stepOf limit r byte .event) receive
 
   effect-tested : memorySize programSize ≤ length (held .memory) → socketNumber (socketOf socket) ≡ socket → (h : Happening)
-      → effect (boxRules settings) held (socketOf socket) h .answer ≡ tested (finishTests settings socket held h) refused (passed settings socket held h)
+      → happeningDoes (boxRules settings) held (socketOf socket) h .answer ≡ tested (finishTests settings socket held h) refused (passed settings socket held h)
   effect-tested m s Nothing = refl
   effect-tested m s Cut = refl
   effect-tested m s (Finished message) = rw s (message-tested settings socket held m message)

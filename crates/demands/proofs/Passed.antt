@@ -18,22 +18,22 @@ use Rattle.podbox.specs.Whole.{handedDoes}
 use Rattle.podbox.specs.Box.{Took, limit, panel, boxRules, plainAnswer, takeTests, wholeTests, takeOf, wholeOf}
 
 module _ (settings : Settings) (socket : ℕ) (r : Receiver) (byte : ℕ) (held : Held) (receive reply : List ℕ) where
-  abbrev taken : Took
-  taken = stepDoes (boxRules settings) (socketOf socket) byte (lent r held receive reply) (stepOf limit r byte)
+  abbrev stepped : Took
+  stepped = stepDoes (boxRules settings) (socketOf socket) byte (lent r held receive reply) (stepOf limit r byte)
 
-  pub take-passed : AllHold (takeTests settings socket (lent r held receive reply)) → takeOf settings socket r byte held receive reply ≡ taken
+  pub take-passed : AllHold (takeTests settings socket (lent r held receive reply)) → takeOf settings socket r byte held receive reply ≡ stepped
   unfolding byteOf
-  take-passed = tested-passed (takeTests settings socket (lent r held receive reply)) (λ number. took r (plainAnswer number) held receive reply) taken
+  take-passed = tested-passed (takeTests settings socket (lent r held receive reply)) (λ number. took r (plainAnswer number) held receive reply) stepped
 
   -- whatever holds of a call that is turned away, and of one that is taken, holds of the call
   pub take-cases : (P : Took → Type 0) → ((number : ℕ) → 30 ≤ number → number ≤ 32 → P (took r (refused number) held receive reply))
-      → (AllHold (takeTests settings socket (lent r held receive reply)) → P taken) → P (takeOf settings socket r byte held receive reply)
+      → (AllHold (takeTests settings socket (lent r held receive reply)) → P stepped) → P (takeOf settings socket r byte held receive reply)
   unfolding byteOf
-  take-cases P away when-taken =
+  take-cases P away when-stepped =
       let Away : ℕ → Type 0 = λ number. P (took r (plainAnswer number) held receive reply) in
       let thirty = away 30 (omega arith) (omega arith) in
       let last = away 32 (omega arith) (omega arith) in
-      tested-cases P (takeTests settings socket (lent r held receive reply)) (λ number. took r (plainAnswer number) held receive reply) taken when-taken
+      tested-cases P (takeTests settings socket (lent r held receive reply)) (λ number. took r (plainAnswer number) held receive reply) stepped when-stepped
       (λ number f. first-named Away f
       ((λ _. thirty), (λ _. ((λ _. thirty), (λ _. ((λ _. thirty), (λ _. ((λ _. away 31 (omega arith) (omega arith)), (λ _. ((λ _. last), (λ _. ((λ _. last), (λ _. tt)))))))))))))
 
@@ -42,11 +42,10 @@ module _ (settings : Settings) (message : List ℕ) (held : Held) (reply : List 
   unfolding directOf
   whole-passed = tested-passed (wholeTests settings held reply) (λ number. left (plainAnswer number) held reply) (leaves (handedDoes settings panel message held) reply)
 
-  pub whole-cases : (P : Left → Type 0) → ((number : ℕ) → 30 ≤ number → number ≤ 32 → P (left (refused number) held reply))
+  pub whole-cases : (P : Left → Type 0) → P (left (refused 30) held reply) → P (left (refused 32) held reply)
       → (AllHold (wholeTests settings held reply) → P (leaves (handedDoes settings panel message held) reply)) → P (wholeOf settings message held reply)
   unfolding directOf
-  whole-cases P away when-taken =
+  whole-cases P short invalid when-stepped =
       let Away : ℕ → Type 0 = λ number. P (left (plainAnswer number) held reply) in
-      let thirty = away 30 (omega arith) (omega arith) in
-      tested-cases P (wholeTests settings held reply) (λ number. left (plainAnswer number) held reply) (leaves (handedDoes settings panel message held) reply) when-taken
-      (λ number f. first-named Away f ((λ _. thirty), (λ _. ((λ _. thirty), (λ _. ((λ _. away 32 (omega arith) (omega arith)), (λ _. tt)))))))
+      tested-cases P (wholeTests settings held reply) (λ number. left (plainAnswer number) held reply) (leaves (handedDoes settings panel message held) reply) when-stepped
+      (λ number f. first-named Away f ((λ _. short), (λ _. ((λ _. short), (λ _. ((λ _. invalid), (λ _. tt)))))))

@@ -79,7 +79,7 @@ module _ (message : List ℕ) where
   form-missed = (
     known,
     (λ k.
-        let fields = both (leb (opcodeOf body) 1) (leb (typeOf body) 2) (both (leb 7 (length body)) (leb (opcodeOf body) 1 && leb (typeOf body) 2) k .1) in
+        let fields = both (leb (opcodeOf body) dump) (leb (typeOf body) all) (both (leb 7 (length body)) (leb (opcodeOf body) dump && leb (typeOf body) all) k .1) in
         let opcode = leb-true (opcodeOf body) dump (fields .0) in
         let type = leb-true (typeOf body) all (fields .1) in (
           (λ e. whole opcode type (whole-missed e)),

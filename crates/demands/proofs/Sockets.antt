@@ -10,11 +10,11 @@ use borrow.Author.Tests.{leb-true, le-leb, lt-leb}
 use Rattle.programs.specs.Memory.{programSize, memorySize}
 use Rattle.programs.specs.Held.{Held}
 use Rattle.framing.proofs.Stands.{fresh-sound}
-use Rattle.sockets.specs.Framer.{Framer, Idle}
-use Rattle.sockets.specs.Calls.{Socket, S0, S1, Byte, Direct, Finish, FromSocket, FromDirect, finishes}
-use Rattle.sockets.specs.Box.{Lawful, CallsOf, SaidsOf, turnedAway}
+use Rattle.sockets.specs.Framer.{Idle}
+use Rattle.sockets.specs.Calls.{Socket, S0, S1, Byte, Direct, Finish, FromSocket, FromDirect}
+use Rattle.sockets.specs.Box.{Lawful, LeftOf, CallsOf, SaidsOf, turnedAway}
 use Rattle.sockets.specs.Promise.{socketNumber}
-use Rattle.sockets.specs.History.{WorldOf, History}
+use Rattle.sockets.specs.History.{WorldOf, backDirect, History, direct, finishedAlong}
 use Rattle.sockets.specs.Demand.{Independent, Fresh, Sound, Roomy, starts, NoEffect}
 use Rattle.sockets.specs.Calm.{calm, calmSaids}
 use Rattle.sockets.proofs.Whole.{demand3, from-sound, no-effect}
@@ -26,7 +26,7 @@ use Rattle.sysex.specs.Numbers.{answerNumber}
 use Rattle.sysex.specs.Carrying.{Outcome}
 use Rattle.podbox.specs.Settings.{isValid}
 use Rattle.podbox.specs.Whole.{bodyOf, messageOrder}
-use Rattle.podbox.specs.Box.{limit, panel, boxRules}
+use Rattle.podbox.specs.Box.{limit, panel, boxRules, wholeOf}
 use Rattle.demands.proofs.Tells.{order-tells, message-tells}
 use Rattle.demands.proofs.Carried.{Tame, stores, sends, applies, refuses, message-tame, handed-tame}
 
@@ -88,13 +88,14 @@ module _ (settings : Settings) where
   -- "Unfinished and cut messages have no effect.": for any two histories.
   pub box-no-effect : (w v w′ v′ : WorldOf (boxRules settings)) (calls calls′ : CallsOf (boxRules settings)) (saids saids′ : SaidsOf (boxRules settings))
       → NoEffect (boxRules settings) w v w′ v′ calls calls′ saids saids′
-  box-no-effect = no-effect (boxRules settings)
+  box-no-effect w v w′ v′ calls calls′ saids saids′ = no-effect (boxRules settings) w v w′ v′ calls calls′ saids saids′ lawful
 
   -- "A message the panel hands over whole is finished at its call."
-  pub panel-finishes : (start : Socket → Framer) (before : CallsOf (boxRules settings)) (message : List ℕ)
-      → finishes limit (boxRules settings .hands) start before (Direct message) ≡ FromDirect message ∷ []
-  unfolding finishes
-  panel-finishes start before message = refl
+  pub panel-finishes : (w : WorldOf (boxRules settings)) {v : WorldOf (boxRules settings)} {calls : CallsOf (boxRules settings)} {saids : SaidsOf (boxRules settings)} {message : List ℕ}
+      (reply : List ℕ) (done : LeftOf (boxRules settings)) (met : done ≡ wholeOf settings message (w .held) reply)
+      (taken : turnedAway (answerNumber (done .answer)) ≡ false) (rest : History (boxRules settings) (backDirect w (done .held)) calls v saids)
+      → finishedAlong (boxRules settings) (direct {w = w} {x = message} reply done met taken rest) ≡ FromDirect message ∷ finishedAlong (boxRules settings) rest
+  panel-finishes w reply done met taken rest = refl
 
   -- Histories exist: with valid settings and enough lent, a box with sound receivers turns no call away.
   pub box-lives : isValid settings ≡ true → (reply : List ℕ) → longest programSize ≤ length reply → (w : WorldOf (boxRules settings)) (calls : CallsOf (boxRules settings))

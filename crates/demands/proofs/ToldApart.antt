@@ -24,28 +24,33 @@ use Rattle.sysex.specs.Numbers.{answerNumber, answerLength}
 use Rattle.sysex.specs.Carrying.{heldTest}
 use Rattle.podbox.specs.Box.{panel, takeOf, wholeOf}
 use Rattle.costerbloom.specs.Numbers.{packed, readingNumber, takeNumbers, wholeNumbers, scaleNumber, memoryBack, backNumber}
-use Rattle.demands.specs.Answered.{InTable}
+use Rattle.demands.specs.Answered.{ByteNumber, PanelNumber}
 use Rattle.demands.specs.Told.{Told, Apart}
 use Rattle.demands.proofs.EveryCall.{every-byte, every-message}
 
 -- an answer's parts have room in their bits
-told : (answer : Answer) → InTable (answerNumber answer) → answerLength answer ≤ longest programSize → Told answer (packed answer)
+told : (answer : Answer) → answerNumber answer < 256 → answerLength answer ≤ longest programSize → Told answer (packed answer)
 unfolding packed
-told answer i short =
-    let small : answerNumber answer < 256 = ⊎-elim (λ h. omega arith) (⊎-elim (λ h. omega arith) (⊎-elim (λ h. omega arith) (λ h. omega arith))) i in
-    (omega arith, omega arith, omega arith)
+told answer small short = (omega arith, omega arith, omega arith)
+
+byte-small : (number : ℕ) → ByteNumber number → number < 256
+byte-small number = ⊎-elim (λ h. omega arith) (⊎-elim (λ h. omega arith) (λ h. omega arith))
+
+panel-small : (number : ℕ) → PanelNumber number → number < 256
+panel-small number =
+    ⊎-elim (λ h. omega arith) (⊎-elim (λ h. omega arith) (⊎-elim (λ h. omega arith) (⊎-elim (λ h. omega arith) (⊎-elim (λ h. omega arith) (λ h. omega arith)))))
 
 pub take-told : (settings : Settings) (socket : ℕ) (receiver : Receiver) (byte : ℕ) (held : Held) (receive reply : List ℕ)
     → Told (takeOf settings socket receiver byte held receive reply .answer) (takeNumbers settings socket receiver byte held receive reply .answer)
 unfolding takeNumbers
 take-told settings socket receiver byte held receive reply =
     let a = every-byte settings receiver byte held receive reply socket in
-    told _ (a .numbered) (a .fits)
+    told _ (byte-small _ (a .numbered)) (a .keeps .fits)
 
 pub whole-told : (settings : Settings) (message : List ℕ) (held : Held) (reply : List ℕ)
     → Told (wholeOf settings message held reply .answer) (wholeNumbers settings message held reply .answer)
 unfolding wholeNumbers
-whole-told settings message held reply = let a = every-message settings message held reply in told _ (a .numbered) (a .fits)
+whole-told settings message held reply = let a = every-message settings message held reply in told _ (panel-small _ (a .numbered)) (a .keeps .fits)
 
 pub scale-apart : (controller value : ℕ) → Apart (scaleOf controller value) (scaleNumber controller value)
 unfolding scaleNumber scaleOf readingNumber

@@ -3,12 +3,7 @@ use Prim.Native.Nat.{ℕ, _+_}
 use lib.ListN.{getD}
 use Rattle.programs.specs.Memory.{programSize, editPlace}
 use Rattle.programs.specs.Held.{Held}
-use Rattle.sysex.specs.declared.Settings.{Settings}
 
 -- byte 46 of a player's edit buffer
 abbrev pub selector : ℕ → Held → ℕ
 selector player held = getD (held .memory) (editPlace programSize player + 46) 0
-
--- the status of a controller on our channel
-abbrev pub ourController : Settings → ℕ
-ourController settings = 0xB0 + settings .channel

@@ -7,7 +7,7 @@ use Rattle.ground.specs.Tests.{Test, test, renamed}
 use Rattle.programs.specs.Memory.{programSize}
 use Rattle.programs.specs.Held.{Held, Edit, bytesIn}
 use Rattle.controls.specs.Table.{rowOf}
-use Rattle.controls.specs.Refusals.{listedTest, rangeTest, selectedTest}
+use Rattle.controls.specs.Refusals.{moveTests}
 use Rattle.framing.specs.Bytes.{stepOf}
 use Rattle.sockets.specs.Framer.{SysEx, TooLong, Channel, Happening, Nothing, Cut, Finished}
 use Rattle.sockets.specs.Box.{Lent}
@@ -19,10 +19,6 @@ use Rattle.podbox.specs.Messages.{channelTests}
 use Rattle.podbox.specs.Whole.{messageTests}
 use Rattle.podbox.specs.Box.{limit, takeTests, wholeTests}
 
--- "17, 18, 19": a controller and its value, by its row, in the sender's edit buffer
-abbrev pub moveTests : ℕ → ℕ → List ℕ → List (Test ℕ)
-moveTests controller value edit = listedTest (rowOf controller) ∷ rangeTest (rowOf controller) value ∷ selectedTest (rowOf controller) edit ∷ []
-
 -- the tests of what a byte finishes
 abbrev pub finishTests : Settings → ℕ → Held → Happening → List (Test ℕ)
 finishTests settings player held Nothing = []
@@ -30,7 +26,7 @@ finishTests settings player held Cut = []
 finishTests settings player held (Finished (SysEx body)) = map (renamed checkNumber) (testsOf programSize settings body)
 finishTests settings player held (Finished TooLong) = test 10 false ∷ []
 finishTests settings player held (Finished (Channel status first second)) =
-    channelTests settings status ++ moveTests first second (bytesIn programSize player Edit held)
+    channelTests settings status ++ moveTests (rowOf first) second (bytesIn programSize player Edit held)
 
 -- all tests of a byte call, and of the panel's
 abbrev pub byteTests : Settings → ℕ → ℕ → Lent Held → List (Test ℕ)

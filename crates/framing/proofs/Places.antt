@@ -15,19 +15,19 @@ use Rattle.framing.specs.Places.{Belongs}
 
 module _ (limit : ℕ) (r : Receiver) (byte : ℕ) where
   abbrev Right : Stepped → Type 0
-  Right s = Belongs r byte (s .event)
+  Right s = Belongs limit r byte (s .event)
 
-  status : (event opening : Event) → Belongs r byte event → (byte ≡ 0xF0 → Belongs r byte opening) → Right (statusOf byte event opening)
+  status : (event opening : Event) → Belongs limit r byte event → (byte ≡ 0xF0 → Belongs limit r byte opening) → Right (statusOf byte event opening)
   status event opening e o =
       by Right (ltb byte 0xF0) _ _ (λ _. e) (λ _. by Right (eqb byte 0xF0) _ _ (λ f. o (eqb-true byte 0xF0 f)) (λ _. e))
 
-  pub belongs : Belongs r byte (stepOf limit r byte .event)
+  pub belongs : Belongs limit r byte (stepOf limit r byte .event)
   unfolding stepOf
   belongs =
       by Right (isRealTime byte) _ _ (λ _. tt)
       (λ _. by Right (isOpen r) _ _
-      (λ _. by Right (isData byte) _ _
-      (λ d. by Right (ltb (r .stored) limit) _ _ (λ _. inl (refl, ltb-true byte 0x80 d)) (λ _. tt))
+      (λ o. by Right (isData byte) _ _
+      (λ d. by Right (ltb (r .stored) limit) _ _ (λ l. inl (refl, ltb-true byte 0x80 d, o, ltb-true (r .stored) limit l)) (λ _. tt))
       (λ _. by Right (eqb byte 0xF7) _ _
       (λ _. by Right (isLong r) _ _ (λ _. tt) (λ _. tt))
       (λ _. status Cut CutAndOpen tt (λ e. e))))

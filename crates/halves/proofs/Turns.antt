@@ -1,4 +1,4 @@
--- What one turn of each loop keeps: what is written, and then what the definition makes of the rest, is what it makes of the whole.
+-- What one turn of each loop keeps: what is one-written, and then what the definition makes of the rest, is what it makes of the whole.
 use Prim.Native.Nat.{ℕ, _+_, _*_, _/_, _%_, _≤_, _<_, max}
 use mathlib.Core.List.{List, _++_}
 use mathlib.Core.Bool.{Bool, true, false, _&&_}
@@ -8,13 +8,13 @@ use lib.ListN.{length, getD, take, drop, set, length-set, drop-of-length-le}
 use lib.Dec.{leb}
 use borrow.Author.Tests.{leb-true, leb-false, le-leb, lt-leb}
 use Rattle.ground.specs.Lists.{allAtMost}
-use Rattle.ground.proofs.Lists.{drop-one, drop-two, written}
+use Rattle.ground.proofs.Lists.{drop-one, drop-two, one-written}
 use Rattle.halves.specs.HalfBytes.{split, join}
 
 pub join-turn : (bytes halves : List ℕ) (i j : ℕ) → i < length bytes → j + 1 < length halves
     → take i bytes ++ join (drop j halves) ≡ join halves
     → take (i + 1) (set bytes i (getD halves j 0 * 16 + getD halves (j + 1) 0)) ++ join (drop (j + 2) halves) ≡ join halves
-join-turn bytes halves i j hi hj inv = written bytes i _ _ hi ∙ (rw (drop-two halves j hj) at inv)
+join-turn bytes halves i j hi hj inv = one-written bytes i _ _ hi ∙ (rw (drop-two halves j hj) at inv)
 
 pub split-turn : (bytes halves : List ℕ) (i j : ℕ) → i < length bytes → j + 1 < length halves
     → take j halves ++ split (drop i bytes) ≡ split bytes
@@ -23,7 +23,7 @@ split-turn bytes halves i j hi hj inv =
     let d = set halves j (getD bytes i 0 / 16) in
     let h : j + 1 < length d = simp length-set (omega arith) in
     let e : j + 2 ≡ j + 1 + 1 = omega arith in
-    rw e (written d (j + 1) _ _ h ∙ (written halves j _ _ (omega arith) ∙ (rw (drop-one bytes i hi) at inv)))
+    rw e (one-written d (j + 1) _ _ h ∙ (one-written halves j _ _ (omega arith) ∙ (rw (drop-one bytes i hi) at inv)))
 
 -- a number of two half bytes, times 4097: the high half, lifted by four bits, stands beside the low half
 pub joined-byte : (high low : ℕ) → high ≤ 15 → low ≤ 15 → (high + 256 * low) * 4097 / 256 % 256 ≡ high * 16 + low

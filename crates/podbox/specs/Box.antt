@@ -31,18 +31,21 @@ limit = longest programSize - 1
 abbrev pub settingsTest : Settings → Test ℕ
 settingsTest settings = test 32 (isValid settings)
 
--- "A call tests 30, 31, 32 in that order": 31 "socket not 0 or 1", 32 "receiver not sound, or a setting out of its range"
+-- 32 "receiver not sound, or a setting out of its range"
+abbrev pub readyTests : Settings → Receiver → List (Test ℕ)
+readyTests settings receiver = test 32 (soundOf limit receiver) ∷ settingsTest settings ∷ []
+
+-- "A call tests 30, 31, 32 in that order": 31 "socket not 0 or 1"
 abbrev pub takeTests : Settings → ℕ → Lent Held → List (Test ℕ)
 takeTests settings socket entry =
     heldTest programSize (entry .held) ∷ bufferTest programSize (entry .receive) ∷ bufferTest programSize (entry .reply)
-    ∷ test 31 (leb socket 1)
-    ∷ test 32 (soundOf limit (entry .receiver)) ∷ settingsTest settings ∷ []
+    ∷ test 31 (leb socket 1) ∷ readyTests settings (entry .receiver)
 
 -- a whole message "has no socket and no receiver: 30 for the memory or the reply buffer, 32 for a setting"
 abbrev pub wholeTests : Settings → Held → List ℕ → List (Test ℕ)
 wholeTests settings held reply = heldTest programSize held ∷ bufferTest programSize reply ∷ settingsTest settings ∷ []
 
--- the panel's messages are player one's
+-- the panel's messages are those of socket 0's player
 abbrev pub panel : ℕ
 panel = 0
 

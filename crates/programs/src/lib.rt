@@ -8,7 +8,7 @@ pub const PROGRAM: usize = 72;
 
 pub const PROGRAMS: usize = 36;
 
-// Where the edit buffer of a player begins: one serves both.
+// Where the edit buffer of a player begins: one serves both. The size is a `u8`, so that no product overflows.
 pub fn edit_place(size: u8, player: u32) -> usize
     ensures { λ r. ⌜ r ≡ editPlace size player ⌝ }
 {

@@ -7,7 +7,7 @@ use Rattle.ground.proofs.Tests.{by}
 use Rattle.framing.specs.Bytes.{isRealTime}
 use Rattle.sockets.specs.Framer.{Happening, Nothing, Framer, Idle, Heard, hear, hears}
 use Rattle.sockets.specs.Calls.{Socket, Byte, Direct, ifSame, stands, bytesOf, handing, finishing, happens, finishes}
-use Rattle.sockets.specs.Box.{Rules, CallsOf, FinishesOf, SaidsOf, saidOf, finishedBy, heldAfter, effect}
+use Rattle.sockets.specs.Box.{Rules, CallsOf, FinishesOf, SaidsOf, saidOf, finishedBy, heldAfter, happeningDoes}
 use Rattle.sockets.specs.History.{WorldOf, does, saidsAlong}
 use Rattle.sockets.specs.Calm.{calm, calmSaids, Calm}
 use Rattle.sockets.proofs.Agree.{together}
@@ -85,14 +85,14 @@ module _ (rules : Rules) where
   calm-saids held before before′ (Byte s b ∷ calls) e =
       let after = before ++ (Byte s b ∷ []) in
       let after′ = before′ ++ (Byte s b ∷ []) in
-      let o = effect rules held s (happensTo before s b) in
+      let o = happeningDoes rules held s (happensTo before s b) in
       together (λ (l : SaidsOf rules) (k : CallsOf rules). l ≡ answersTo held before′ k) (isRealTime b)
       (calmSaids calls (answersTo (o .held) after calls)) (saidOf o ∷ calmSaids calls (answersTo (o .held) after calls))
       (calm calls) (Byte s b ∷ calm calls)
       (λ c. calm-saids (o .held) after before′ calls (level-real-time before before′ e s b c)
-      ∙ ap (λ (h : Happening). answersTo (effect rules held s h .held) before′ (calm calls)) (happens-real-time before before′ e s b c))
+      ∙ ap (λ (h : Happening). answersTo (happeningDoes rules held s h .held) before′ (calm calls)) (happens-real-time before before′ e s b c))
       (λ c. ap (λ (l : SaidsOf rules). saidOf o ∷ l) (calm-saids (o .held) after after′ calls (level-byte before before′ e s b))
-      ∙ ap (λ (h : Happening). saidOf (effect rules held s h) ∷ answersTo (effect rules held s h .held) after′ (calm calls))
+      ∙ ap (λ (h : Happening). saidOf (happeningDoes rules held s h) ∷ answersTo (happeningDoes rules held s h .held) after′ (calm calls))
       (happens-level before before′ e s b))
 
 pub calms : (rules : Rules) (w v w′ v′ : WorldOf rules) (calls : CallsOf rules) (saids saids′ : SaidsOf rules)

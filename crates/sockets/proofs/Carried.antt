@@ -6,7 +6,7 @@ use mathlib.Core.List.{List, [], _∷_, _++_}
 use lib.Dec.{eqb}
 use Rattle.sockets.specs.Framer.{Happening, Nothing, Cut, Finished, Framer}
 use Rattle.sockets.specs.Calls.{Socket, Call, Byte, Direct, finishing, happens, finishes}
-use Rattle.sockets.specs.Box.{Said, Rules, CallsOf, FinishesOf, SaidsOf, saidOf, sentOf, finishedBy, heldAfter, saidsOf, effect, Lawful}
+use Rattle.sockets.specs.Box.{Said, Rules, CallsOf, FinishesOf, SaidsOf, saidOf, sentOf, finishedBy, heldAfter, saidsOf, happeningDoes, Lawful}
 use Rattle.sockets.specs.History.{does, saidsAlong}
 
 -- the replies of some saids and then of others
@@ -48,7 +48,7 @@ module _ (rules : Rules) (start : Socket → Framer) where
   unfolding finishes
   held-one (Byte s b) before held = go (happens (rules .limit) start before s b)
     where
-      go : (h : Happening) → heldAfter rules held (finishing s h) ≡ effect rules held s h .held
+      go : (h : Happening) → heldAfter rules held (finishing s h) ≡ happeningDoes rules held s h .held
       go Nothing = refl
       go Cut = refl
       go (Finished m) = refl
@@ -60,7 +60,7 @@ module _ (rules : Rules) (start : Socket → Framer) where
     unfolding finishes
     sent-one (Byte s b) before held g = go (happens (rules .limit) start before s b)
       where
-        go : (h : Happening) → sentOf (rules .number) (saidOf (effect rules held s h) ∷ []) ≡ sentOf (rules .number) (saidsOf rules held (finishing s h))
+        go : (h : Happening) → sentOf (rules .number) (saidOf (happeningDoes rules held s h) ∷ []) ≡ sentOf (rules .number) (saidsOf rules held (finishing s h))
         go Nothing = rw (law .quiet .0)
         go Cut = rw (law .cut .0)
         go (Finished m) = refl

@@ -3,12 +3,13 @@ use Prim.Native.Nat.{ℕ}
 use mathlib.Core.List.{List, [], _∷_, map}
 use mathlib.Core.Path.{_≡_, refl}
 use Rattle.framing.specs.Receiver.{takesOne}
+use Rattle.framing.specs.Runs.{openBytes}
 use Rattle.sockets.specs.Framer.{SysEx, Channel, Idle, hears, messagesFrom}
 use Rattle.sockets.specs.Calls.{S0, S1, Byte, Direct, FromSocket, FromDirect, finishes, finishedAfter}
 use Rattle.sockets.specs.Runs.{happeningsOf, runs}
 
 pub right : map (λ c. happeningsOf 5192 Idle (c .bytes)) runs ≡ map (λ c. c .happenings) runs
-unfolding hears takesOne happeningsOf runs
+unfolding hears takesOne happeningsOf runs openBytes
 right = refl
 
 -- the messages are what the bytes finish, in order: a cut SysEx and an unfinished message are none

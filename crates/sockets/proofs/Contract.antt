@@ -11,7 +11,7 @@ use Rattle.ground.proofs.InOrder.{tested-cases}
 use Rattle.framing.specs.Bytes.{stepOf}
 use Rattle.sockets.specs.Framer.{Happening, Nothing, Cut, Finished}
 use Rattle.sockets.specs.Calls.{Socket, S0, S1}
-use Rattle.sockets.specs.Box.{Rules, OutcomeOf, LentOf, TookOf, LeftOf, took, Away, Lawful, turnedAway, effect, effectDirect}
+use Rattle.sockets.specs.Box.{Rules, OutcomeOf, LentOf, TookOf, LeftOf, took, Away, Lawful, turnedAway, happeningDoes, directDoes}
 use Rattle.sockets.specs.Promise.{happeningOf, bufferAfter, socketNumber, socketOf, stepDoes, byteOf, directOf}
 
 pub number-socket : (s : Socket) → socketOf (socketNumber s) ≡ s
@@ -35,7 +35,7 @@ module _ (rules : Rules) where
 module _ (rules : Rules) (law : Lawful rules) where
   -- the length that a call tells is that of its reply
   tells : (held : rules .Held) (s : Socket) (h : Happening) → rules .Good held
-      → rules .count (effect rules held s h .answer) ≡ length (effect rules held s h .sent)
+      → rules .count (happeningDoes rules held s h .answer) ≡ length (happeningDoes rules held s h .sent)
   tells held s Nothing g = law .quiet .1
   tells held s Cut g = law .cut .1
   tells held s (Finished m) g = law .told held s m g
@@ -52,7 +52,7 @@ module _ (rules : Rules) (law : Lawful rules) where
 
   pub byte-took : (socket b : ℕ) (entry : LentOf rules) (done : TookOf rules) → done ≡ byteOf rules socket b entry
       → turnedAway (rules .number (done .answer)) ≡ false
-      → TookByte b entry done (effect rules (entry .held) (socketOf socket) (happeningOf (stepOf (rules .limit) (entry .receiver) b .event) (entry .receive)))
+      → TookByte b entry done (happeningDoes rules (entry .held) (socketOf socket) (happeningOf (stepOf (rules .limit) (entry .receiver) b .event) (entry .receive)))
   unfolding byteOf stepDoes
   byte-took socket b entry done c e =
       let st = stepOf (rules .limit) (entry .receiver) b in
@@ -79,10 +79,10 @@ module _ (rules : Rules) (law : Lawful rules) where
     pub sent : take (rules .extent x (done .answer)) (done .reply) ≡ o .sent
 
   pub direct-took : (x : rules .Given) (held : rules .Held) (out : List ℕ) (done : LeftOf rules) → done ≡ directOf rules x held out
-      → turnedAway (rules .number (done .answer)) ≡ false → TookDirect x held done (effectDirect rules held x)
+      → turnedAway (rules .number (done .answer)) ≡ false → TookDirect x held done (directDoes rules held x)
   unfolding directOf
   direct-took x held out done c e =
       let t = taken rules (λ (l : LeftOf rules). l .answer) (rules .testsDirect x held out) (λ number. left (rules .plain number) held out)
-      (leaves (effectDirect rules held x) out) (λ n. refl) (law .awayDirect x held out) (rw c at e) in
+      (leaves (directDoes rules held x) out) (λ n. refl) (law .awayDirect x held out) (rw c at e) in
       let g = law .enoughDirect x held out (t .0) in
       rw (c ∙ t .1) (record { good = g; after = refl; answer = refl; sent = rw (law .toldDirect held x g) (take-append-seam _ _) })

@@ -10,7 +10,7 @@ use Rattle.ground.specs.Lists.{allAtMost}
 use Rattle.ground.proofs.Tests.{both}
 use Rattle.sockets.specs.Framer.{Happening, Nothing, Framer, Idle, Inside, hear, closed, hears}
 use Rattle.sockets.specs.Calls.{Socket, S0, S1, Byte, FromSocket, ifSame, stands, bytesOf, feed, finishing, finishes}
-use Rattle.sockets.specs.Box.{said, Rules, CallsOf, FinishesOf, SaidsOf, Lawful, saidOf, finishedBy, heldAfter, taken, effect}
+use Rattle.sockets.specs.Box.{said, Rules, CallsOf, FinishesOf, SaidsOf, Lawful, saidOf, finishedBy, heldAfter, taken, happeningDoes}
 use Rattle.sockets.specs.History.{WorldOf, History, saidsAlong}
 use Rattle.sockets.specs.Demand.{Fresh}
 use Rattle.sockets.proofs.Alone.{stands-byte}
@@ -45,7 +45,7 @@ module _ (rules : Rules) (start : Socket → Framer) (s : Socket) (held : rules 
   rest-fed before body [] e low =
       rw (append-nil body) (
         ap (λ (at : Framer). finishing s (hears (rules .limit) at 0xF7 .what) ++ []) e,
-        ap (λ (at : Framer). saidOf (effect rules held s (hears (rules .limit) at 0xF7 .what)) ∷ []) e,
+        ap (λ (at : Framer). saidOf (happeningDoes rules held s (hears (rules .limit) at 0xF7 .what)) ∷ []) e,
       )
   rest-fed before body (b ∷ rest) e low =
       let p = both (leb b 0x7F) (allAtMost 0x7F rest) low in
@@ -54,7 +54,7 @@ module _ (rules : Rules) (start : Socket → Framer) (s : Socket) (held : rules 
       let n = rw (append-assoc body (b ∷ []) rest) at next in
       let what : hears (rules .limit) (At before) b .what ≡ Nothing = rw (e, a) in (
         ap (λ (h : Happening). finishing s h ++ finishedBy rules start (before ++ (Byte s b ∷ [])) (feed s (rest ++ (0xF7 ∷ [])))) what ∙ n .0,
-        ap (λ (h : Happening). let o = effect rules held s h in saidOf o ∷ saidsAlong rules start (o .held) (before ++ (Byte s b ∷ [])) (feed s (rest ++ (0xF7 ∷ [])))) what
+        ap (λ (h : Happening). let o = happeningDoes rules held s h in saidOf o ∷ saidsAlong rules start (o .held) (before ++ (Byte s b ∷ [])) (feed s (rest ++ (0xF7 ∷ [])))) what
             ∙ ap (λ (l : SaidsOf rules). said (rules .plain 0) [] ∷ l) (n .1),
       )
 

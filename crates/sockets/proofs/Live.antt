@@ -16,7 +16,7 @@ use Rattle.framing.specs.Bytes.{stepOf}
 use Rattle.framing.proofs.Keeps.{keeps-sound}
 use Rattle.sockets.specs.Framer.{Message, Happening, Nothing, Cut, Finished}
 use Rattle.sockets.specs.Calls.{Socket, S0, S1, Call, Byte, Direct, FromSocket, ifSame, handing}
-use Rattle.sockets.specs.Box.{Rules, lent, CallsOf, FinishesOf, SaidsOf, Lawful, turnedAway, heldAfter, effect, effectDirect}
+use Rattle.sockets.specs.Box.{Rules, lent, CallsOf, FinishesOf, SaidsOf, Lawful, turnedAway, heldAfter, happeningDoes, directDoes}
 use Rattle.sockets.specs.Promise.{happeningOf, bufferAfter, socketNumber, socketOf, takes, stepDoes, byteOf, directOf}
 use Rattle.sockets.specs.History.{WorldOf, lends, back, backDirect, History, nothing, byte, direct}
 use Rattle.sockets.specs.Demand.{Sound, Roomy}
@@ -31,7 +31,7 @@ pub record Ready (rules : Rules) (reply : List ℕ) (Fair : rules .Given → Lis
   -- and no number of what is taken is one of a call turned away
   pub quiet : (turnedAway (rules .number (rules .plain 0)) ≡ false) × (turnedAway (rules .number (rules .plain 4)) ≡ false)
   pub answered : (held : rules .Held) (s : Socket) (m : Message) → rules .Good held → turnedAway (rules .number (rules .carry held (FromSocket s m) .answer)) ≡ false
-  pub answeredDirect : (held : rules .Held) (x : rules .Given) → rules .Good held → turnedAway (rules .number (effectDirect rules held x .answer)) ≡ false
+  pub answeredDirect : (held : rules .Held) (x : rules .Given) → rules .Good held → turnedAway (rules .number (directDoes rules held x .answer)) ≡ false
 
 -- each direct call is one that is taken, with what `outs` lends for it
 abbrev pub AllFair : {Given : Type 0} → (Given → List ℕ → Type 0) → (Given → List ℕ) → List (Call Given) → Type 0
@@ -60,13 +60,13 @@ module _ (rules : Rules) (law : Lawful rules) where
   good-after held [] g = g
   good-after held (f ∷ fs) g = good-after _ fs (law .kept held f g)
 
-  good-effect : (s : Socket) (h : Happening) (held : rules .Held) → rules .Good held → rules .Good (effect rules held s h .held)
+  good-effect : (s : Socket) (h : Happening) (held : rules .Held) → rules .Good held → rules .Good (happeningDoes rules held s h .held)
   good-effect s Nothing held g = g
   good-effect s Cut held g = g
   good-effect s (Finished m) held g = law .kept held (FromSocket s m) g
 
   module _ (reply : List ℕ) (Fair : rules .Given → List ℕ → Type 0) (ready : Ready rules reply Fair) (outs : rules .Given → List ℕ) where
-    taken-effect : (s : Socket) (h : Happening) (held : rules .Held) → rules .Good held → turnedAway (rules .number (effect rules held s h .answer)) ≡ false
+    taken-effect : (s : Socket) (h : Happening) (held : rules .Held) → rules .Good held → turnedAway (rules .number (happeningDoes rules held s h .answer)) ≡ false
     taken-effect s Nothing held good = ready .quiet .0
     taken-effect s Cut held good = ready .quiet .1
     taken-effect s (Finished m) held good = ready .answered held s m good
@@ -82,7 +82,7 @@ module _ (rules : Rules) (law : Lawful rules) where
         let some : 1 ≤ rules .limit = omega (arith, law .positive) in
         let room : rules .limit < length (bufferAfter (st .event) (w .receive s) b) = rw (length-after (st .event) (w .receive s) b) (rooms s) in
         let all = ready .taken s (w .held) (w .receiver s) (w .receive s) good (sound s) (rooms s) in
-        let done = takes rules b entry st (effect rules (w .held) (socketOf (socketNumber s)) h) in
+        let done = takes rules b entry st (happeningDoes rules (w .held) (socketOf (socketNumber s)) h) in
         let rest = live (back w s done) calls
         (after (λ r. soundOf (rules .limit) r ≡ true) s (st .receiver) (w .receiver) (keeps-sound (rules .limit) some (w .receiver s) (sound s) b) sound)
         (good-effect (socketOf (socketNumber s)) h (w .held) good)
@@ -90,6 +90,6 @@ module _ (rules : Rules) (law : Lawful rules) where
         (rest .0, _ ∷ rest .1, byte reply done (sym (tested-passed (rules .tests (socketNumber s) entry) _ done all)) (taken-effect (socketOf (socketNumber s)) h (w .held) good) (rest .2))
     live w (Direct x ∷ calls) sound good rooms fair =
         let all = ready .takenDirect x (outs x) (w .held) good (fair .0) in
-        let done = leaves (effectDirect rules (w .held) x) (outs x) in
+        let done = leaves (directDoes rules (w .held) x) (outs x) in
         let rest = live (backDirect w (done .held)) calls sound (good-after (w .held) (handing (rules .hands x)) good) rooms (fair .1) in
         (rest .0, _ ∷ rest .1, direct (outs x) done (sym (tested-passed (rules .testsDirect x (w .held) (outs x)) _ done all)) (ready .answeredDirect (w .held) x good) (rest .2))

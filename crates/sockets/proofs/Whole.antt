@@ -93,7 +93,7 @@ module _ (rules : Rules) (w v : WorldOf rules) (calls : CallsOf rules) (saids : 
       agreed-independent rules _ law (λ s h. sound-agrees (rules .limit) (w .receive s) (rooms rules law history s h) (w .receiver s) (sound s)) history
 
 module _ (rules : Rules) (w v w′ v′ : WorldOf rules) (calls calls′ : CallsOf rules) (saids saids′ : SaidsOf rules) where
-  pub no-effect : NoEffect rules w v w′ v′ calls calls′ saids saids′
+  pub no-effect : Lawful rules → NoEffect rules w v w′ v′ calls calls′ saids saids′
   no-effect law sound sound′ e history history′ same-messages =
       let d = from-sound rules w v calls saids law sound history in
       let d′ = from-sound rules w′ v′ calls′ saids′ law sound′ history′ in (

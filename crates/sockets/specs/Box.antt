@@ -122,14 +122,14 @@ module _ (rules : Rules) where
   saidsOf held (f ∷ fs) = saidOf (rules .carry held f) ∷ saidsOf (rules .carry held f .held) fs
 
   -- what a happening on a socket does: 0, 4, or what the finished message does
-  abbrev pub effect : rules .Held → Socket → Happening → OutcomeOf rules
-  effect held s Nothing = outcome (rules .plain 0) held []
-  effect held s Cut = outcome (rules .plain 4) held []
-  effect held s (Finished m) = rules .carry held (FromSocket s m)
+  abbrev pub happeningDoes : rules .Held → Socket → Happening → OutcomeOf rules
+  happeningDoes held s Nothing = outcome (rules .plain 0) held []
+  happeningDoes held s Cut = outcome (rules .plain 4) held []
+  happeningDoes held s (Finished m) = rules .carry held (FromSocket s m)
 
   -- what a direct call does: it carries out its messages in order
-  abbrev pub effectDirect : rules .Held → rules .Given → OutcomeOf rules
-  effectDirect held x =
+  abbrev pub directDoes : rules .Held → rules .Given → OutcomeOf rules
+  directDoes held x =
       let fs = handing (rules .hands x) in
       let a = rules .report x (saidsOf held fs) in
       outcome (a .answer) (heldAfter held fs) (a .sent)
@@ -158,8 +158,8 @@ pub record Lawful (rules : Rules) : Type 0 where
   pub told : (held : rules .Held) (s : Socket) (m : Message) → rules .Good held
       → rules .count (rules .carry held (FromSocket s m) .answer) ≡ length (rules .carry held (FromSocket s m) .sent)
   pub toldDirect : (held : rules .Held) (x : rules .Given) → rules .Good held
-      → rules .extent x (effectDirect rules held x .answer) ≡ length (effectDirect rules held x .sent)
+      → rules .extent x (directDoes rules held x .answer) ≡ length (directDoes rules held x .sent)
   -- a direct call sends what its messages send
   pub passes : (held : rules .Held) (x : rules .Given) → rules .Good held
-      → sentOf (rules .number) (saidOf (effectDirect rules held x) ∷ [])
+      → sentOf (rules .number) (saidOf (directDoes rules held x) ∷ [])
       ≡ sentOf (rules .number) (saidsOf rules held (handing (rules .hands x)))

@@ -58,7 +58,7 @@ module _ (rules : Rules) (w v : WorldOf rules) (calls : CallsOf rules) (saids : 
 module _ (rules : Rules) (w v w′ v′ : WorldOf rules) (calls calls′ : CallsOf rules) (saids saids′ : SaidsOf rules) where
   abbrev pub NoEffect : Type 0
   NoEffect =
-      Lawful rules → Sound rules w → Sound rules w′ → w .held ≡ w′ .held
+      Sound rules w → Sound rules w′ → w .held ≡ w′ .held
       → (history : History rules w calls v saids) (history′ : History rules w′ calls′ v′ saids′)
       → finishedAlong rules history ≡ finishedAlong rules history′
       → (v .held ≡ v′ .held) × (sentOf (rules .number) saids ≡ sentOf (rules .number) saids′)

@@ -8,7 +8,7 @@ use Rattle.framing.specs.declared.Receiver.{Receiver}
 use Rattle.framing.specs.Bytes.{stepOf}
 use Rattle.sockets.specs.Framer.{Framer}
 use Rattle.sockets.specs.Calls.{Socket, Call, Byte, Direct, ifSame, happens, finishing, handing}
-use Rattle.sockets.specs.Box.{Lent, lent, Took, said, Rules, OutcomeOf, TookOf, LeftOf, CallsOf, FinishesOf, SaidsOf, saidOf, turnedAway, effect, effectDirect}
+use Rattle.sockets.specs.Box.{Lent, lent, Took, said, Rules, OutcomeOf, TookOf, LeftOf, CallsOf, FinishesOf, SaidsOf, saidOf, turnedAway, happeningDoes, directDoes}
 use Rattle.sockets.specs.Promise.{happeningOf, socketNumber, byteOf, directOf}
 
 -- what stands from call to call: "the box's one memory", and each socket's "own" receiver and receive buffer
@@ -64,8 +64,8 @@ module _ (rules : Rules) where
 
   -- what a call does after the calls before it: it carries out what it finishes
   abbrev pub does : (Socket → Framer) → rules .Held → CallsOf rules → Call (rules .Given) → OutcomeOf rules
-  does start held before (Byte s b) = effect rules held s (happens (rules .limit) start before s b)
-  does start held before (Direct x) = effectDirect rules held x
+  does start held before (Byte s b) = happeningDoes rules held s (happens (rules .limit) start before s b)
+  does start held before (Direct x) = directDoes rules held x
 
   -- what each of the calls then says
   abbrev pub saidsAlong : (Socket → Framer) → rules .Held → CallsOf rules → CallsOf rules → SaidsOf rules

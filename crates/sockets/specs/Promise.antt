@@ -11,7 +11,7 @@ use Rattle.framing.specs.declared.Stepped.{Stepped}
 use Rattle.framing.specs.Bytes.{stepOf}
 use Rattle.sockets.specs.Framer.{SysEx, TooLong, Channel, Happening, Nothing, Cut, Finished}
 use Rattle.sockets.specs.Calls.{Socket, S0, S1}
-use Rattle.sockets.specs.Box.{Rules, OutcomeOf, LentOf, TookOf, LeftOf, took, effect, effectDirect}
+use Rattle.sockets.specs.Box.{Rules, OutcomeOf, LentOf, TookOf, LeftOf, took, happeningDoes, directDoes}
 
 -- what an event of the receiver is to the box: a finished SysEx stands in the receive buffer
 abbrev pub happeningOf : Event → List ℕ → Happening
@@ -48,7 +48,7 @@ module _ (rules : Rules) where
 
   -- the message that a step of a socket's receiver finishes is the socket's
   unfoldable pub stepDoes : Socket → ℕ → LentOf rules → Stepped → TookOf rules
-  stepDoes s byte entry st = takes byte entry st (effect rules (entry .held) s (happeningOf (st .event) (entry .receive)))
+  stepDoes s byte entry st = takes byte entry st (happeningDoes rules (entry .held) s (happeningOf (st .event) (entry .receive)))
 
   -- the byte call: turned away it changes "nothing at all", else it "takes the byte"
   unfoldable pub byteOf : ℕ → ℕ → LentOf rules → TookOf rules
@@ -59,4 +59,4 @@ module _ (rules : Rules) where
 
   -- a direct call
   unfoldable pub directOf : rules .Given → rules .Held → List ℕ → LeftOf rules
-  directOf x held out = tested (rules .testsDirect x held out) (λ number. left (rules .plain number) held out) (leaves (effectDirect rules held x) out)
+  directOf x held out = tested (rules .testsDirect x held out) (λ number. left (rules .plain number) held out) (leaves (directDoes rules held x) out)

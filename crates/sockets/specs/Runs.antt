@@ -1,7 +1,8 @@
--- Worked examples: what each byte of a fresh socket does, and what a mixture of calls finishes.
-use Prim.Native.Nat.{ℕ, _-_}
+-- Worked examples: what each byte of a fresh socket does.
+use Prim.Native.Nat.{ℕ}
 use mathlib.Core.List.{List, [], _∷_, _++_}
 use lib.ListN.{replicate}
+use Rattle.framing.specs.Runs.{openBytes}
 use Rattle.sockets.specs.Framer.{SysEx, TooLong, Channel, Happening, Nothing, Cut, Finished, Framer, hears}
 
 -- what each of a socket's bytes does
@@ -15,10 +16,6 @@ pub record Run : Type 0 where
 
 abbrev pub run : List ℕ → List Happening → Run
 run bytes happenings = record { bytes = bytes; happenings = happenings }
-
--- F0 and data bytes, n in all
-abbrev pub body : ℕ → List ℕ
-body n = 0xF0 ∷ replicate (n - 1) 0x05
 
 -- n bytes that finish nothing
 abbrev pub quiet : ℕ → List Happening
@@ -51,7 +48,7 @@ runs =
     -- data bytes with no running status, and F7 with nothing open
     run (0x40 ∷ 0x41 ∷ 0xF7 ∷ []) (quiet 3) ∷
     -- 5,192 bytes before F7 are a message; with one more it is too long, and a cut is a cut
-    run (body 5192 ++ 0xF8 ∷ 0xF7 ∷ []) (quiet 5193 ++ Finished (SysEx (body 5192)) ∷ []) ∷
-    run (body 5193 ++ 0xF7 ∷ 0xF7 ∷ []) (quiet 5193 ++ Finished TooLong ∷ Nothing ∷ []) ∷
-    run (body 5193 ++ 0xF0 ∷ 0x01 ∷ 0xF7 ∷ []) (quiet 5193 ++ Cut ∷ Nothing ∷ Finished (SysEx (0xF0 ∷ 0x01 ∷ [])) ∷ []) ∷
+    run (openBytes 5192 ++ 0xF8 ∷ 0xF7 ∷ []) (quiet 5193 ++ Finished (SysEx (openBytes 5192)) ∷ []) ∷
+    run (openBytes 5193 ++ 0xF7 ∷ 0xF7 ∷ []) (quiet 5193 ++ Finished TooLong ∷ Nothing ∷ []) ∷
+    run (openBytes 5193 ++ 0xF0 ∷ 0x01 ∷ 0xF7 ∷ []) (quiet 5193 ++ Cut ∷ Nothing ∷ Finished (SysEx (0xF0 ∷ 0x01 ∷ [])) ∷ []) ∷
     []

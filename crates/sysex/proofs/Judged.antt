@@ -9,33 +9,33 @@ use borrow.Author.Tests.{eqb-true, leb-true}
 use Rattle.ground.specs.Tests.{AllHold}
 use Rattle.ground.proofs.Tests.{both}
 use Rattle.halves.specs.HalfBytes.{allHalves}
-use Rattle.sysex.specs.Forms.{header, begins, opcodeOf, typeOf, programOf, request, versionPlace, dataPlace, bodyLength}
+use Rattle.sysex.specs.Forms.{header, begins, opcodeOf, typeOf, programOf, request, dump, all, version, versionPlace, dataPlace, bodyLength}
 use Rattle.sysex.specs.Judging.{hasProgram, dataTests, formTests}
 
 -- a body that begins with the header and passes every test
 pub record Right (size : ℕ) (body : List ℕ) : Type 0 where
   pub ours : begins header body ≡ true
   pub long : 7 ≤ length body
-  pub opcode : opcodeOf body ≤ 1
-  pub type : typeOf body ≤ 2
+  pub opcode : opcodeOf body ≤ dump
+  pub type : typeOf body ≤ all
   pub whole : length body ≡ bodyLength size (opcodeOf body) (typeOf body)
   pub numbered : hasProgram (typeOf body) (programOf body) ≡ true
-  pub version : eqb (opcodeOf body) request ≡ false → getD body (versionPlace (typeOf body)) 0 ≡ 0
+  pub version : eqb (opcodeOf body) request ≡ false → getD body (versionPlace (typeOf body)) 0 ≡ version
   pub halves : eqb (opcodeOf body) request ≡ false → allHalves (drop (dataPlace (typeOf body)) body) ≡ true
 
 pub right : (size : ℕ) (body : List ℕ) → begins header body ≡ true → AllHold (formTests size body) → Right size body
 right size body ours a =
-    let known = both (leb 7 (length body)) (leb (opcodeOf body) 1 && leb (typeOf body) 2) (a .0) in
-    let kinds = both (leb (opcodeOf body) 1) (leb (typeOf body) 2) (known .1) in
-    let fields = a .1 .1 in
-    let rest : eqb (opcodeOf body) request ≡ false → AllHold (dataTests (typeOf body) body) = λ e. rw e at (fields .1) in
+    let known = both (leb 7 (length body)) (leb (opcodeOf body) dump && leb (typeOf body) all) (a .0) in
+    let fields = both (leb (opcodeOf body) dump) (leb (typeOf body) all) (known .1) in
+    let numbers = a .1 .1 in
+    let rest : eqb (opcodeOf body) request ≡ false → AllHold (dataTests (typeOf body) body) = λ e. rw e at (numbers .1) in
     record {
       ours = ours;
       long = leb-true _ _ (known .0);
-      opcode = leb-true _ _ (kinds .0);
-      type = leb-true _ _ (kinds .1);
+      opcode = leb-true _ _ (fields .0);
+      type = leb-true _ _ (fields .1);
       whole = eqb-true _ _ (a .1 .0);
-      numbered = fields .0;
+      numbered = numbers .0;
       version = λ e. eqb-true _ _ (rest e .0);
       halves = λ e. rest e .1 .0;
     }

@@ -7,11 +7,11 @@ use native.Mathlib.Omega.{arith}
 use lib.ListN.{length, take, drop, getD, set, length-append}
 use lib.Seq.{take-at, drop-at, drop-drop}
 use Rattle.ground.specs.Lists.{written}
-use Rattle.ground.proofs.Lists.{drop-one, written as one-written}
+use Rattle.ground.proofs.Lists.{drop-one, one-written}
 use Rattle.halves.specs.HalfBytes.{split}
 use Rattle.halves.proofs.Laws.{length-split}
 use Rattle.programs.specs.Memory.{putPart}
-use Rattle.sysex.specs.Forms.{header, dumpStart, ended}
+use Rattle.sysex.specs.Forms.{header, dump, version, dumpStart, ended}
 
 -- what is copied, and then what is left to copy, is the whole
 pub copy-turn : (to from : List ℕ) (i : ℕ) → i < length to → i < length from → take i to ++ drop i from ≡ from
@@ -26,14 +26,14 @@ written-more n k bytes more reply e f =
     rw (take-at bytes (drop (length bytes) reply) n e, drop-at bytes (drop (length bytes) reply) n e, e, behind, append-assoc bytes more (drop (length (bytes ++ more)) reply))
 
 -- a dump up to its data, written in four parts
-pub begun : (type : ℕ) (pp r₀ r₁ r₂ r₃ r₄ : List ℕ) → r₁ ≡ putPart 0 5 header r₀ → r₂ ≡ putPart 5 2 (1 ∷ type ∷ []) r₁
-    → r₃ ≡ putPart 7 (length pp) pp r₂ → r₄ ≡ putPart (7 + length pp) 1 (0 ∷ []) r₃
+pub begun : (type : ℕ) (pp r₀ r₁ r₂ r₃ r₄ : List ℕ) → r₁ ≡ putPart 0 5 header r₀ → r₂ ≡ putPart 5 2 (dump ∷ type ∷ []) r₁
+    → r₃ ≡ putPart 7 (length pp) pp r₂ → r₄ ≡ putPart (7 + length pp) 1 (version ∷ []) r₃
     → r₄ ≡ written (dumpStart type pp) r₀
 begun type pp r₀ r₁ r₂ r₃ r₄ e₁ e₂ e₃ e₄ =
-    let opened = header ++ (1 ∷ type ∷ []) in
-    let s₂ : r₂ ≡ written opened r₀ = e₂ ∙ (rw e₁ (written-more 5 2 header (1 ∷ type ∷ []) r₀ refl refl)) in
+    let opened = header ++ (dump ∷ type ∷ []) in
+    let s₂ : r₂ ≡ written opened r₀ = e₂ ∙ (rw e₁ (written-more 5 2 header (dump ∷ type ∷ []) r₀ refl refl)) in
     let s₃ : r₃ ≡ written (opened ++ pp) r₀ = e₃ ∙ (rw s₂ (written-more 7 (length pp) opened pp r₀ refl refl)) in
-    e₄ ∙ (rw s₃ (written-more (7 + length pp) 1 (opened ++ pp) (0 ∷ []) r₀ (omega arith) refl))
+    e₄ ∙ (rw s₃ (written-more (7 + length pp) 1 (opened ++ pp) (version ∷ []) r₀ (omega arith) refl))
 
 -- a dump: up to its data, the data, the last byte
 module _ (type : ℕ) (pp part : List ℕ) where
@@ -41,7 +41,7 @@ module _ (type : ℕ) (pp part : List ℕ) where
   body = dumpStart type pp ++ split part
 
   start-length : length (dumpStart type pp) ≡ 8 + length pp
-  start-length = omega (arith, length-append pp (0 ∷ []))
+  start-length = omega (arith, length-append pp (version ∷ []))
 
   body-length : length body ≡ 8 + length pp + 2 * length part
   body-length = omega (arith, length-append (dumpStart type pp) (split part), start-length, length-split part)
