@@ -32,7 +32,7 @@ use Rattle.sysex.specs.Carrying.{Outcome, Left}
 use Rattle.sysex.proofs.Numbered.{does-number}
 use Rattle.podbox.specs.Whole.{bodyOf, messageOrder}
 use Rattle.podbox.specs.Box.{limit, panel, boxRules, takeOf, wholeOf}
-use Rattle.demands.specs.Answered.{ByteNumber, PanelNumber, Keeps, OnePlace, Answered, AnsweredWhole}
+use Rattle.demands.specs.Answered.{ByteNumber, PanelNumber, Confined, OnePlace, Answered, AnsweredWhole}
 use Rattle.demands.proofs.Passed.{take-cases, whole-cases}
 use Rattle.demands.proofs.Carried.{Tame, stores, sends, applies, refuses, message-tame, handed-tame}
 
@@ -46,16 +46,16 @@ length-zero Cut n = refl
 length-zero (Refused refusal) n = refl
 
 -- where nothing changes
-unchanged : (held : Held) (reply : List ℕ) (answer : Answer) → answerLength answer ≡ 0 → Keeps held reply (left answer held reply)
+unchanged : (held : Held) (reply : List ℕ) (answer : Answer) → answerLength answer ≡ 0 → Confined held reply (left answer held reply)
 unchanged held reply answer none = record { refused = λ _. (refl, refl); kept = λ _ _. refl; behind = refl; fits = omega arith; length-kept = refl }
 
 -- what was carried out
-tame-keeps : (held : Held) (reply : List ℕ) (o : Outcome) → Tame held o → Keeps held reply (leaves o reply)
-tame-keeps held reply o (stores after e) = record { refused = λ h. absurd (omega arith); kept = λ n _. absurd (n refl); behind = refl; fits = omega arith; length-kept = e }
-tame-keeps held reply o (sends bytes short) =
+tame-confined : (held : Held) (reply : List ℕ) (o : Outcome) → Tame held o → Confined held reply (leaves o reply)
+tame-confined held reply o (stores after e) = record { refused = λ h. absurd (omega arith); kept = λ n _. absurd (n refl); behind = refl; fits = omega arith; length-kept = e }
+tame-confined held reply o (sends bytes short) =
     record { refused = λ h. absurd (omega arith); kept = λ _ _. refl; behind = drop-append-seam bytes (drop (length bytes) reply); fits = short; length-kept = refl }
-tame-keeps held reply o (applies after e) = record { refused = λ h. absurd (omega arith); kept = λ _ n. absurd (n refl); behind = refl; fits = omega arith; length-kept = e }
-tame-keeps held reply o (refuses number lo hi) = unchanged held reply _ refl
+tame-confined held reply o (applies after e) = record { refused = λ h. absurd (omega arith); kept = λ _ n. absurd (n refl); behind = refl; fits = omega arith; length-kept = e }
+tame-confined held reply o (refuses number lo hi) = unchanged held reply _ refl
 
 tame-numbered : (held : Held) (o : Outcome) → Tame held o → ByteNumber (answerNumber (o .answer)) × (answerNumber (o .answer) ≤ 22)
 tame-numbered held o (stores after e) = (inl (omega arith), omega arith)
@@ -88,27 +88,27 @@ order-in (order.Refused check) = check-in check
 pub every-message : (settings : Settings) (message : List ℕ) (held : Held) (reply : List ℕ) → AnsweredWhole held reply (wholeOf settings message held reply)
 every-message settings message held reply =
     whole-cases settings message held reply (AnsweredWhole held reply)
-    (record { numbered = inr (inr (inr (inr (inl refl)))); keeps = unchanged held reply _ refl })
-    (record { numbered = inr (inr (inr (inr (inr refl)))); keeps = unchanged held reply _ refl })
+    (record { numbered = inr (inr (inr (inr (inl refl)))); confined = unchanged held reply _ refl })
+    (record { numbered = inr (inr (inr (inr (inr refl)))); confined = unchanged held reply _ refl })
     (λ all. record {
       numbered = rw (does-number programSize settings panel (bodyOf message) held (messageOrder settings message)) (order-in (messageOrder settings message));
-      keeps = tame-keeps held reply _ (handed-tame settings panel held (leb-true _ _ (all .0)) message);
+      confined = tame-confined held reply _ (handed-tame settings panel held (leb-true _ _ (all .0)) message);
     })
 
 module _ (settings : Settings) (r : Receiver) (byte : ℕ) (held : Held) (receive reply : List ℕ) where
   -- 0 to 22: the receiver has stepped
-  with-step : (place : List ℕ) (l : Left) → Keeps held reply l → ByteNumber (answerNumber (l .answer)) × (answerNumber (l .answer) ≤ 22) → OnePlace r byte receive place
+  with-step : (place : List ℕ) (l : Left) → Confined held reply l → ByteNumber (answerNumber (l .answer)) × (answerNumber (l .answer) ≤ 22) → OnePlace r byte receive place
       → Answered r byte held receive reply (took (stepOf limit r byte .receiver) (l .answer) (l .held) place (l .reply))
   with-step place l k n one =
       let below = n .1 in
-      record { numbered = n .0; keeps = k; turned-away = λ h. absurd (omega arith); stepped = λ _. refl; placed = one }
+      record { numbered = n .0; confined = k; turned-away = λ h. absurd (omega arith); stepped = λ _. refl; placed = one }
 
   quiet : (answer : Answer) (place : List ℕ) → answerNumber answer ≤ 4 → answerLength answer ≡ 0 → OnePlace r byte receive place
       → Answered r byte held receive reply (took (stepOf limit r byte .receiver) answer held place reply)
   quiet answer place small none one = with-step place (left answer held reply) (unchanged held reply answer none) (inl small, omega arith) one
 
   done : (o : Outcome) → Tame held o → Answered r byte held receive reply (took (stepOf limit r byte .receiver) (o .answer) (o .held) receive (written (o .sent) reply))
-  done o tame = with-step receive (leaves o reply) (tame-keeps held reply o tame) (tame-numbered held o tame) (inl refl)
+  done o tame = with-step receive (leaves o reply) (tame-confined held reply o tame) (tame-numbered held o tame) (inl refl)
 
   module _ (socket : ℕ) where
     event-answered : memorySize programSize ≤ length (held .memory) → (e : Event) → Belongs limit r byte e
@@ -129,5 +129,5 @@ module _ (settings : Settings) (r : Receiver) (byte : ℕ) (held : Held) (receiv
     every-byte =
         take-cases settings socket r byte held receive reply (Answered r byte held receive reply)
         (λ number lo hi.
-        record { numbered = inr (inr (lo, hi)); keeps = unchanged held reply _ refl; turned-away = λ _. refl; stepped = λ h. absurd (omega arith); placed = inl refl })
+        record { numbered = inr (inr (lo, hi)); confined = unchanged held reply _ refl; turned-away = λ _. refl; stepped = λ h. absurd (omega arith); placed = inl refl })
         (λ all. event-answered (leb-true _ _ (all .0)) (stepOf limit r byte .event) (belongs limit r byte))

@@ -45,12 +45,12 @@ pub take-told : (settings : Settings) (socket : ℕ) (receiver : Receiver) (byte
 unfolding takeNumbers
 take-told settings socket receiver byte held receive reply =
     let a = every-byte settings receiver byte held receive reply socket in
-    told _ (byte-small _ (a .numbered)) (a .keeps .fits)
+    told _ (byte-small _ (a .numbered)) (a .confined .fits)
 
 pub whole-told : (settings : Settings) (message : List ℕ) (held : Held) (reply : List ℕ)
     → Told (wholeOf settings message held reply .answer) (wholeNumbers settings message held reply .answer)
 unfolding wholeNumbers
-whole-told settings message held reply = let a = every-message settings message held reply in told _ (panel-small _ (a .numbered)) (a .keeps .fits)
+whole-told settings message held reply = let a = every-message settings message held reply in told _ (panel-small _ (a .numbered)) (a .confined .fits)
 
 pub scale-apart : (controller value : ℕ) → Apart (scaleOf controller value) (scaleNumber controller value)
 unfolding scaleNumber scaleOf readingNumber

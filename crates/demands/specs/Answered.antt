@@ -25,7 +25,7 @@ PanelNumber number =
     (number ≡ 1) ⊎ ((number ≡ 2) ⊎ (((10 ≤ number) × (number ≤ 16)) ⊎ ((number ≡ 22) ⊎ ((number ≡ 30) ⊎ (number ≡ 32)))))
 
 -- what holds of the answer, of what the box holds and of the reply buffer, at every call
-pub record Keeps (held : Held) (reply : List ℕ) (l : Left) : Type 0 where
+pub record Confined (held : Held) (reply : List ℕ) (l : Left) : Type 0 where
   -- "A refused message changes no program and no edit buffer byte, and writes no reply."
   pub refused : 10 ≤ answerNumber (l .answer) → (l .held ≡ held) × (l .reply ≡ reply)
   -- "Bytes of any buffer not named under Effect keep their value": only 1 and 3 change what the box holds
@@ -46,7 +46,7 @@ OnePlace r byte receive after =
 pub record Answered (r : Receiver) (byte : ℕ) (held : Held) (receive reply : List ℕ) (l : Took) : Type 0 where
   -- "gets one of the numbered replies"
   pub numbered : ByteNumber (answerNumber (l .answer))
-  pub keeps : Keeps held reply (record { held = l .held; answer = l .answer; reply = l .reply })
+  pub confined : Confined held reply (record { held = l .held; answer = l .answer; reply = l .reply })
   -- "nothing at all", from 30 on
   pub turned-away : 30 ≤ answerNumber (l .answer) → l ≡ took r (l .answer) held receive reply
   -- "In rows 0 to 22 the receiver becomes what the byte rules say."
@@ -56,4 +56,4 @@ pub record Answered (r : Receiver) (byte : ℕ) (held : Held) (receive reply : L
 -- a message of the panel
 pub record AnsweredWhole (held : Held) (reply : List ℕ) (l : Left) : Type 0 where
   pub numbered : PanelNumber (answerNumber (l .answer))
-  pub keeps : Keeps held reply l
+  pub confined : Confined held reply l

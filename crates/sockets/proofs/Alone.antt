@@ -15,9 +15,9 @@ stands-snoc : (limit : ℕ) (f : Framer) (l : List ℕ) (b : ℕ) → stands lim
 stands-snoc limit f [] b = refl
 stands-snoc limit f (x ∷ l) b = stands-snoc limit (hears limit f x .next) l b
 
-module _ {Handed : Type 0} where
+module _ {Delivered : Type 0} where
   -- the messages of socket s in what a byte of socket t, or a direct call, finishes in front of others
-  of-byte : (s t : Socket) (h : Happening) (fs : List (Finish Handed))
+  of-byte : (s t : Socket) (h : Happening) (fs : List (Finish Delivered))
       → ofSocket s (finishing t h ++ fs) ≡ ifSame s t (add h (ofSocket s fs)) (ofSocket s fs)
   of-byte s t Nothing fs = sym (same-if s t (ofSocket s fs))
   of-byte s t Cut fs = sym (same-if s t (ofSocket s fs))
@@ -26,7 +26,7 @@ module _ {Handed : Type 0} where
   of-byte S1 S0 (Finished m) fs = refl
   of-byte S1 S1 (Finished m) fs = refl
 
-  of-direct : (s : Socket) (xs : List Handed) (fs : List (Finish Handed)) → ofSocket s (handing xs ++ fs) ≡ ofSocket s fs
+  of-direct : (s : Socket) (xs : List Delivered) (fs : List (Finish Delivered)) → ofSocket s (handing xs ++ fs) ≡ ofSocket s fs
   of-direct s [] fs = refl
   of-direct s (x ∷ xs) fs = of-direct s xs fs
 
@@ -54,7 +54,7 @@ module _ {Given : Type 0} where
         → stands limit f (bytesOf s (before ++ (Direct x ∷ []))) ≡ stands limit f (bytesOf s before)
     stands-direct f s x before = rw (bytes-append, append-nil)
 
-    pub alone : {Handed : Type 0} (hands : Given → List Handed) (start : Socket → Framer) (s : Socket) (before calls : List (Call Given))
+    pub alone : {Delivered : Type 0} (hands : Given → List Delivered) (start : Socket → Framer) (s : Socket) (before calls : List (Call Given))
         → ofSocket s (finishedAfter limit hands start before calls) ≡ messagesFrom limit (stands limit (start s) (bytesOf s before)) (bytesOf s calls)
     unfolding finishes messagesFrom
     alone hands start s before [] = refl

@@ -47,7 +47,7 @@ pub record Rules : Type 1 where
   pub Good : Held → Type 0
   -- what a direct call hands over, and a message that it finishes
   pub Given : Type 0
-  pub Handed : Type 0
+  pub Delivered : Type 0
   -- what a call answers: its number in the table, and the length of the reply that it tells
   pub Code : Type 0
   pub number : Code → ℕ
@@ -62,9 +62,9 @@ pub record Rules : Type 1 where
   pub tests : ℕ → Lent Held → List (Test ℕ)
   pub testsDirect : Given → Held → List ℕ → List (Test ℕ)
   -- the messages that a direct call finishes
-  pub hands : Given → List Handed
+  pub hands : Given → List Delivered
   -- what a finished message does
-  pub carry : Held → Finish Handed → Outcome Held Code
+  pub carry : Held → Finish Delivered → Outcome Held Code
   -- what a direct call says, by what its messages answered
   pub report : Given → List (Said Code) → Said Code
 
@@ -85,7 +85,7 @@ abbrev pub CallsOf : Rules → Type 0
 CallsOf rules = List (Call (rules .Given))
 
 abbrev pub FinishesOf : Rules → Type 0
-FinishesOf rules = List (Finish (rules .Handed))
+FinishesOf rules = List (Finish (rules .Delivered))
 
 abbrev pub SaidsOf : Rules → Type 0
 SaidsOf rules = List (Said (rules .Code))
@@ -150,7 +150,7 @@ pub record Lawful (rules : Rules) : Type 0 where
       → (rules .limit < length (entry .receive)) × rules .Good (entry .held)
   pub enoughDirect : (x : rules .Given) (held : rules .Held) (out : List ℕ) → AllHold (rules .testsDirect x held out) → rules .Good held
   -- and a message leaves enough
-  pub kept : (held : rules .Held) (f : Finish (rules .Handed)) → rules .Good held → rules .Good (rules .carry held f .held)
+  pub kept : (held : rules .Held) (f : Finish (rules .Delivered)) → rules .Good held → rules .Good (rules .carry held f .held)
   -- where nothing is finished, nothing is sent
   pub quiet : (rules .number (rules .plain 0) ≡ 0) × (rules .count (rules .plain 0) ≡ 0)
   pub cut : (rules .number (rules .plain 4) ≡ 4) × (rules .count (rules .plain 4) ≡ 0)

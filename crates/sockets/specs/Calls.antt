@@ -12,9 +12,9 @@ pub data Call (Given : Type 0) : Type 0 where
   Direct : Given → Call Given
 
 -- a finished message, and who finished it
-pub data Finish (Handed : Type 0) : Type 0 where
-  FromSocket : Socket → Message → Finish Handed
-  FromDirect : Handed → Finish Handed
+pub data Finish (Delivered : Type 0) : Type 0 where
+  FromSocket : Socket → Message → Finish Delivered
+  FromDirect : Delivered → Finish Delivered
 
 -- x where the sockets are the same, y where they are not
 abbrev pub ifSame {ℓ} : {A : Type ℓ} → Socket → Socket → A → A → A
@@ -44,33 +44,33 @@ module _ {Given : Type 0} where
   abbrev pub happens : ℕ → (Socket → Framer) → List (Call Given) → Socket → ℕ → Happening
   happens limit start before s b = hears limit (stands limit (start s) (bytesOf s before)) b .what
 
-module _ {Handed : Type 0} where
+module _ {Delivered : Type 0} where
   -- the finished messages of one socket
-  abbrev pub ofSocket : Socket → List (Finish Handed) → List Message
+  abbrev pub ofSocket : Socket → List (Finish Delivered) → List Message
   ofSocket s [] = []
   ofSocket s (FromSocket t m ∷ fs) = ifSame s t (m ∷ ofSocket s fs) (ofSocket s fs)
   ofSocket s (FromDirect x ∷ fs) = ofSocket s fs
 
   -- the messages that a happening on a socket finishes: one or none
-  abbrev pub finishing : Socket → Happening → List (Finish Handed)
+  abbrev pub finishing : Socket → Happening → List (Finish Delivered)
   finishing s Nothing = []
   finishing s Cut = []
   finishing s (Finished m) = FromSocket s m ∷ []
 
   -- the messages of a direct call
-  abbrev pub handing : List Handed → List (Finish Handed)
+  abbrev pub handing : List Delivered → List (Finish Delivered)
   handing [] = []
   handing (x ∷ xs) = FromDirect x ∷ handing xs
 
 -- `hands` gives the messages that a direct call finishes: "A message the panel hands over whole is finished at its call."
-module _ {Given Handed : Type 0} (limit : ℕ) (hands : Given → List Handed) where
+module _ {Given Delivered : Type 0} (limit : ℕ) (hands : Given → List Delivered) where
   module _ (start : Socket → Framer) where
     -- what a call finishes
-    unfoldable pub finishes : List (Call Given) → Call Given → List (Finish Handed)
+    unfoldable pub finishes : List (Call Given) → Call Given → List (Finish Delivered)
     finishes before (Byte s b) = finishing s (happens limit start before s b)
     finishes before (Direct x) = handing (hands x)
 
     -- what calls finish after the calls before them, "in the order their last bytes arrived"
-    abbrev pub finishedAfter : List (Call Given) → List (Call Given) → List (Finish Handed)
+    abbrev pub finishedAfter : List (Call Given) → List (Call Given) → List (Finish Delivered)
     finishedAfter before [] = []
     finishedAfter before (c ∷ calls) = finishes before c ++ finishedAfter (before ++ (c ∷ [])) calls
