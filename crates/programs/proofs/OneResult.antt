@@ -1,8 +1,9 @@
 -- The promise of this crate leaves room for one result only.
 use Prim.Native.Nat.{ℕ}
 use mathlib.Core.Path.{_≡_}
+use Rattle.kinds.specs.declared.Kind.{Kind}
 use Rattle.ground.proofs.OneResult.{one}
 use Rattle.programs.specs.Memory.{editPlace}
 
-pub edit-place-one : (size player r s : ℕ) → r ≡ editPlace size player → s ≡ editPlace size player → r ≡ s
-edit-place-one size player r s = one
+pub edit-place-one : (kind : Kind) (player r s : ℕ) → r ≡ editPlace kind player → s ≡ editPlace kind player → r ≡ s
+edit-place-one kind player r s = one

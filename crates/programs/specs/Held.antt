@@ -1,6 +1,8 @@
 -- What the box holds, and what a message names of it.
 use Prim.Native.Nat.{ℕ}
 use mathlib.Core.List.{List}
+use Rattle.kinds.specs.declared.Kind.{Kind}
+use Rattle.kinds.specs.Kinds.{sizeOf}
 use Rattle.programs.specs.Memory.{programPlace, editPlace, allSize, partOf, putPart}
 
 -- all that the box keeps from call to call, but for what belongs to one socket
@@ -16,20 +18,20 @@ pub data Target : Type 0 where
   Edit All : Target
 
 -- where it stands in memory for a player, and how many bytes it has
-abbrev pub placeFor : ℕ → ℕ → Target → ℕ
-placeFor size player (One p) = programPlace size p
-placeFor size player Edit = editPlace size player
-placeFor size player All = 0
+abbrev pub placeFor : Kind → ℕ → Target → ℕ
+placeFor kind player (One p) = programPlace kind p
+placeFor kind player Edit = editPlace kind player
+placeFor kind player All = 0
 
-abbrev pub countFor : ℕ → Target → ℕ
-countFor size (One p) = size
-countFor size Edit = size
-countFor size All = allSize size
+abbrev pub countFor : Kind → Target → ℕ
+countFor kind (One p) = sizeOf kind
+countFor kind Edit = sizeOf kind
+countFor kind All = allSize kind
 
 -- the bytes of what is named
-abbrev pub bytesIn : ℕ → ℕ → Target → Held → List ℕ
-bytesIn size player t held = partOf (placeFor size player t) (countFor size t) (held .memory)
+abbrev pub bytesIn : Kind → ℕ → Target → Held → List ℕ
+bytesIn kind player t held = partOf (placeFor kind player t) (countFor kind t) (held .memory)
 
 -- what a store does: what is named becomes these bytes, and nothing else changes
-abbrev pub storeIn : ℕ → ℕ → Target → List ℕ → Held → Held
-storeIn size player t bytes held = heldOf (putPart (placeFor size player t) (countFor size t) bytes (held .memory))
+abbrev pub storeIn : Kind → ℕ → Target → List ℕ → Held → Held
+storeIn kind player t bytes held = heldOf (putPart (placeFor kind player t) (countFor kind t) bytes (held .memory))

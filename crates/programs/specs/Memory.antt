@@ -1,32 +1,31 @@
--- "The box and what it holds". Every length derives from the size of a program.
+-- "The box and what it holds". Every length derives from the kind, by the size of its programs.
 use Prim.Native.Nat.{ℕ, _+_, _*_}
 use mathlib.Core.List.{List, _++_}
 use lib.ListN.{take, drop}
+use Rattle.kinds.specs.declared.Kind.{Kind}
+use Rattle.kinds.specs.Kinds.{sizeOf}
 
--- "36 programs (0x00 to 0x23, shown 1A to 9D) and one edit buffer, 72 bytes each"
+-- "36 programs (0x00 to 0x23, shown 1A to 9D) and one edit buffer", each of the kind's size
 abbrev pub programCount : ℕ
 programCount = 36
 
 abbrev pub lastProgram : ℕ
 lastProgram = 0x23
 
-abbrev pub programSize : ℕ
-programSize = 72
-
 -- "programs in number order, then the edit buffer"
-abbrev pub programPlace : ℕ → ℕ → ℕ
-programPlace size program = program * size
+abbrev pub programPlace : Kind → ℕ → ℕ
+programPlace kind program = program * sizeOf kind
 
 -- the edit buffer of a player, the socket that sends: one edit buffer serves both
-abbrev pub editPlace : ℕ → ℕ → ℕ
-editPlace size player = programCount * size
+abbrev pub editPlace : Kind → ℕ → ℕ
+editPlace kind player = programCount * sizeOf kind
 
--- the bytes of all programs, and of memory: "2,664 bytes in all"; "More may be lent; the rest is not touched."
-abbrev pub allSize : ℕ → ℕ
-allSize size = programCount * size
+-- the bytes of all programs, and of memory: "2,664 bytes in all", or "2,960"; "More may be lent; the rest is not touched."
+abbrev pub allSize : Kind → ℕ
+allSize kind = programCount * sizeOf kind
 
-abbrev pub memorySize : ℕ → ℕ
-memorySize size = (programCount + 1) * size
+abbrev pub memorySize : Kind → ℕ
+memorySize kind = (programCount + 1) * sizeOf kind
 
 -- `count` bytes from a place on, and memory with others in their place
 abbrev pub partOf : ℕ → ℕ → List ℕ → List ℕ

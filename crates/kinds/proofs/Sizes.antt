@@ -1,0 +1,28 @@
+-- Laws of what hangs on a kind, for any kind: whoever stands on `kinds` cites these, and looks at no kind.
+use Prim.Native.Nat.{_≤_}
+use mathlib.Core.List.{[], _∷_}
+use mathlib.Core.Path.{_≡_, refl}
+use native.Mathlib.Omega.{arith}
+use lib.ListN.{getD}
+use Rattle.kinds.specs.declared.Kind.{Kind}
+use Rattle.kinds.specs.declared.Kind.the-variants.{Pod, BassPod}
+use Rattle.kinds.specs.Kinds.{sizeOf, deviceOf, identityOf}
+
+-- a program has a byte, and no more than a byte counts
+pub size-bounds : (kind : Kind) → (1 ≤ sizeOf kind) × (sizeOf kind ≤ 255)
+unfolding sizeOf
+size-bounds Pod = (omega arith, omega arith)
+size-bounds BassPod = (omega arith, omega arith)
+
+-- a device byte is a data byte
+pub device-low : (kind : Kind) → deviceOf kind ≤ 0x7F
+unfolding deviceOf
+device-low Pod = omega arith
+device-low BassPod = omega arith
+
+-- the identity bytes are four
+pub identity-bytes : (kind : Kind)
+    → identityOf kind ≡ getD (identityOf kind) 0 0 ∷ getD (identityOf kind) 1 0 ∷ getD (identityOf kind) 2 0 ∷ getD (identityOf kind) 3 0 ∷ []
+unfolding identityOf
+identity-bytes Pod = refl
+identity-bytes BassPod = refl

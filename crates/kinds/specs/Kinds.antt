@@ -1,0 +1,43 @@
+-- "A box is set as POD or Bass POD before use": the kinds, and all that hangs on the kind.
+use Prim.Native.Nat.{ℕ}
+use mathlib.Core.Bool.{Bool, true, false, cond}
+use mathlib.Core.List.{List, [], _∷_}
+use lib.Dec.{eqb, leb}
+use Rattle.kinds.specs.declared.Kind.{Kind}
+use Rattle.kinds.specs.declared.Kind.the-variants.{Pod, BassPod}
+
+-- The numbers by which a call names its kind, 0 and 1: "a kind that is neither gives 32". What such a number is the kind of does not matter.
+unfoldable pub isKind : ℕ → Bool
+isKind number = leb number 1
+
+unfoldable pub kindOf : ℕ → Kind
+kindOf number = cond (eqb number 1) BassPod Pod
+
+-- "72 bytes each"; "80 data bytes a program"
+unfoldable pub sizeOf : Kind → ℕ
+sizeOf Pod = 72
+sizeOf BassPod = 80
+
+-- "F0 00 01 0C 01"; "device byte 02"
+unfoldable pub deviceOf : Kind → ℕ
+deviceOf Pod = 0x01
+deviceOf BassPod = 0x02
+
+-- "All the rest begins F0 00 01 0C 01", with the kind's device byte
+abbrev pub headerOf : Kind → List ℕ
+headerOf kind = 0xF0 ∷ 0x00 ∷ 0x01 ∷ 0x0C ∷ deviceOf kind ∷ []
+
+-- "00 00 00 01"; "identity 02 00 00 00"
+unfoldable pub identityOf : Kind → List ℕ
+identityOf Pod = 0x00 ∷ 0x00 ∷ 0x00 ∷ 0x01 ∷ []
+identityOf BassPod = 0x02 ∷ 0x00 ∷ 0x00 ∷ 0x00 ∷ []
+
+-- 000: the name is bytes 55 to 70; "The name is bytes 64 to 79."
+unfoldable pub namePlace : Kind → ℕ
+namePlace Pod = 55
+namePlace BassPod = 64
+
+-- "On a Bass box a program change of 1 to 36 .. copies program 0 to 35 into the edit buffer"
+unfoldable pub takesProgramChange : Kind → Bool
+takesProgramChange Pod = false
+takesProgramChange BassPod = true

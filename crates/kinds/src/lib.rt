@@ -1,0 +1,75 @@
+// The kinds of unit that a box may be set as, and all that hangs on the kind: a third kind is a case more of each `match`.
+ghost use mathlib.Core.Path.{_≡_};
+ghost use Rattle.kinds.specs.Kinds.{isKind, kindOf, sizeOf, deviceOf, headerOf, identityOf, takesProgramChange};
+
+pub enum Kind {
+    Pod,
+    BassPod,
+}
+
+// Whether a number is that of a kind.
+pub fn is_kind(number: u32) -> bool
+    ensures { λ r. ⌜ r ≡ isKind number ⌝ }
+{
+    number <= 1
+}
+
+// The kind of a number; one that is no kind is refused before anybody asks this.
+pub fn kind_of(number: u32) -> Kind
+    ensures { λ r. ⌜ r ≡ kindOf number ⌝ }
+{
+    if number == 1 {
+        return Kind::BassPod;
+    }
+    Kind::Pod
+}
+
+// The bytes of a program, and of the edit buffer.
+pub fn size(kind: Kind) -> u8
+    ensures { λ r. ⌜ r ≡ sizeOf kind ⌝ }
+{
+    match kind {
+        Kind::Pod => 72,
+        Kind::BassPod => 80,
+    }
+}
+
+// The device byte: the last of the header.
+pub fn device(kind: Kind) -> u8
+    ensures { λ r. ⌜ r ≡ deviceOf kind ⌝ }
+{
+    match kind {
+        Kind::Pod => 0x01,
+        Kind::BassPod => 0x02,
+    }
+}
+
+// How every message but an identity request begins, and every dump that is sent.
+pub fn header(kind: Kind) -> [u8; 5]
+    ensures { λ r. ⌜ r ≡ headerOf kind ⌝ }
+{
+    match kind {
+        Kind::Pod => *b"\xF0\x00\x01\x0C\x01",
+        Kind::BassPod => *b"\xF0\x00\x01\x0C\x02",
+    }
+}
+
+// The family and the member that an identity reply tells.
+pub fn identity(kind: Kind) -> [u8; 4]
+    ensures { λ r. ⌜ r ≡ identityOf kind ⌝ }
+{
+    match kind {
+        Kind::Pod => *b"\x00\x00\x00\x01",
+        Kind::BassPod => *b"\x02\x00\x00\x00",
+    }
+}
+
+// Whether a program change copies a program into the edit buffer.
+pub fn takes_program_change(kind: Kind) -> bool
+    ensures { λ r. ⌜ r ≡ takesProgramChange kind ⌝ }
+{
+    match kind {
+        Kind::Pod => false,
+        Kind::BassPod => true,
+    }
+}
