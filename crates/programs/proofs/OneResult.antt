@@ -1,9 +1,12 @@
--- The promise of this crate leaves room for one result only.
+-- Each promise of this crate leaves room for one result only.
 use Prim.Native.Nat.{ℕ}
 use mathlib.Core.Path.{_≡_}
 use Rattle.kinds.specs.declared.Kind.{Kind}
 use Rattle.ground.proofs.OneResult.{one}
-use Rattle.programs.specs.Memory.{editPlace}
+use Rattle.programs.specs.Memory.{editPlace, memorySize}
 
 pub edit-place-one : (kind : Kind) (player r s : ℕ) → r ≡ editPlace kind player → s ≡ editPlace kind player → r ≡ s
 edit-place-one kind player r s = one
+
+pub memory-size-one : (kind : Kind) (r s : ℕ) → r ≡ memorySize kind → s ≡ memorySize kind → r ≡ s
+memory-size-one kind r s = one

@@ -1,10 +1,17 @@
 // The programs and the edit buffer in memory: how many there are, and where they stand. All lengths of the box derive from
 // these and from the kind.
 ghost use mathlib.Core.Path.{_≡_};
-ghost use Rattle.programs.specs.Memory.{editPlace};
+ghost use Rattle.programs.specs.Memory.{editPlace, memorySize};
 use kinds::Kind;
 
 pub const PROGRAMS: usize = 36;
+
+// The bytes of memory: the programs, and the edit buffer behind them.
+pub fn memory_size(kind: Kind) -> usize
+    ensures { λ r. ⌜ r ≡ memorySize kind ⌝ }
+{
+    (PROGRAMS + 1) * kinds::size(kind) as usize
+}
 
 // Where the edit buffer of a player begins: one serves both.
 pub fn edit_place(kind: Kind, player: u32) -> usize

@@ -9,22 +9,24 @@ use borrow.Author.Tests.{eqb-true, leb-true}
 use Rattle.ground.specs.Tests.{AllHold}
 use Rattle.ground.proofs.Tests.{both}
 use Rattle.halves.specs.HalfBytes.{allHalves}
-use Rattle.sysex.specs.Forms.{header, begins, opcodeOf, typeOf, programOf, request, dump, all, version, versionPlace, dataPlace, bodyLength}
+use Rattle.kinds.specs.declared.Kind.{Kind}
+use Rattle.kinds.specs.Kinds.{headerOf}
+use Rattle.sysex.specs.Forms.{begins, opcodeOf, typeOf, programOf, request, dump, all, version, versionPlace, dataPlace, bodyLength}
 use Rattle.sysex.specs.Judging.{hasProgram, dataTests, formTests}
 
 -- a body that begins with the header and passes every test
-pub record Right (size : ℕ) (body : List ℕ) : Type 0 where
-  pub ours : begins header body ≡ true
+pub record Right (kind : Kind) (body : List ℕ) : Type 0 where
+  pub ours : begins (headerOf kind) body ≡ true
   pub long : 7 ≤ length body
   pub opcode : opcodeOf body ≤ dump
   pub type : typeOf body ≤ all
-  pub whole : length body ≡ bodyLength size (opcodeOf body) (typeOf body)
+  pub whole : length body ≡ bodyLength kind (opcodeOf body) (typeOf body)
   pub numbered : hasProgram (typeOf body) (programOf body) ≡ true
   pub version : eqb (opcodeOf body) request ≡ false → getD body (versionPlace (typeOf body)) 0 ≡ version
   pub halves : eqb (opcodeOf body) request ≡ false → allHalves (drop (dataPlace (typeOf body)) body) ≡ true
 
-pub right : (size : ℕ) (body : List ℕ) → begins header body ≡ true → AllHold (formTests size body) → Right size body
-right size body ours a =
+pub right : (kind : Kind) (body : List ℕ) → begins (headerOf kind) body ≡ true → AllHold (formTests kind body) → Right kind body
+right kind body ours a =
     let known = both (leb 7 (length body)) (leb (opcodeOf body) dump && leb (typeOf body) all) (a .0) in
     let fields = both (leb (opcodeOf body) dump) (leb (typeOf body) all) (known .1) in
     let numbers = a .1 .1 in

@@ -6,6 +6,7 @@ use mathlib.Core.Logic.{inl, inr, ⊎-elim}
 use mathlib.Core.Path.{_≡_, refl}
 use native.Mathlib.Omega.{arith}
 use Rattle.ground.proofs.Tests.{by}
+use Rattle.kinds.specs.declared.Kind.{Kind}
 use Rattle.programs.specs.Held.{Held}
 use Rattle.sysex.specs.declared.Settings.{Settings}
 use Rattle.sysex.specs.declared.Check.{Check}
@@ -20,7 +21,7 @@ use Rattle.sysex.specs.Carrying.{orderDoes}
 -- a check that fails has one of the numbers 10 to 22
 pub check-number : (c : Check) → (10 ≤ checkNumber c) × (checkNumber c ≤ 22)
 check-number (TooLong most) = (omega arith, omega arith)
-check-number Ours = (omega arith, omega arith)
+check-number (Ours device) = (omega arith, omega arith)
 check-number OpcodeAndType = (omega arith, omega arith)
 check-number (Length right) = (omega arith, omega arith)
 check-number (Program highest) = (omega arith, omega arith)
@@ -37,9 +38,9 @@ passed-done body =
     (λ _. by IsDone (eqb (typeOf body) program) _ _ (λ _. inr refl) (λ _. by IsDone (eqb (typeOf body) edit) _ _ (λ _. inr refl) (λ _. inr refl)))
     (λ _. by IsDone (eqb (typeOf body) program) _ _ (λ _. inl refl) (λ _. by IsDone (eqb (typeOf body) edit) _ _ (λ _. inl refl) (λ _. inl refl))))
 
-module _ (size : ℕ) (settings : Settings) (player : ℕ) (body : List ℕ) (held : Held) where
+module _ (kind : Kind) (settings : Settings) (player : ℕ) (body : List ℕ) (held : Held) where
   -- an order that is carried out answers with its number
-  pub does-number : (o : Order) → answerNumber (orderDoes size settings player o body held .answer) ≡ orderNumber o
+  pub does-number : (o : Order) → answerNumber (orderDoes kind settings player o body held .answer) ≡ orderNumber o
   unfolding orderDoes
   does-number (Identify channel) = refl
   does-number (SendProgram p) = refl
@@ -51,7 +52,7 @@ module _ (size : ℕ) (settings : Settings) (player : ℕ) (body : List ℕ) (he
   does-number (Refused check) = refl
 
   -- an order with number 1 or 2 is carried out, not refused
-  pub done-not-refused : (number : ℕ) (o : Order) → IsDone o → orderDoes size settings player o body held .answer ≡ refused number → ⊥
+  pub done-not-refused : (number : ℕ) (o : Order) → IsDone o → orderDoes kind settings player o body held .answer ≡ refused number → ⊥
   unfolding orderDoes
   done-not-refused number (Identify channel) d e = let z : _≡_ {A = ℕ} 0 1 = cc in omega arith
   done-not-refused number (SendProgram p) d e = let z : _≡_ {A = ℕ} 0 1 = cc in omega arith

@@ -4,22 +4,23 @@ use mathlib.Core.List.{List}
 use mathlib.Core.Path.{_≡_}
 use Rattle.ground.specs.Calls.{left}
 use Rattle.ground.proofs.OneResult.{one, left-one}
-use Rattle.programs.specs.Memory.{programSize}
+use Rattle.kinds.specs.declared.Kind.{Kind}
 use Rattle.programs.specs.Held.{Held}
 use Rattle.sysex.specs.declared.Settings.{Settings}
 use Rattle.sysex.specs.declared.Order.{Order}
 use Rattle.sysex.specs.declared.Answer.{Answer}
 use Rattle.sysex.specs.Numbers.{refused, answerNumber, answerLength, orderNumber}
 use Rattle.sysex.specs.Judging.{judgeOf}
+use Rattle.sysex.specs.Forms.{longest}
 use Rattle.sysex.specs.Carrying.{carryOf}
 
-pub judge-one : (settings : Settings) (body : List ℕ) (r s : Order) → r ≡ judgeOf programSize settings body → s ≡ judgeOf programSize settings body → r ≡ s
-judge-one settings body r s = one
+pub judge-one : (kind : Kind) (settings : Settings) (body : List ℕ) (r s : Order) → r ≡ judgeOf kind settings body → s ≡ judgeOf kind settings body → r ≡ s
+judge-one kind settings body r s = one
 
-pub carry-out-one : (settings : Settings) (player : ℕ) (body : List ℕ) (held : Held) (reply : List ℕ) (r s : Answer) (x y : Held) (v w : List ℕ)
-    → left r x v ≡ carryOf programSize settings player body held reply → left s y w ≡ carryOf programSize settings player body held reply
+pub carry-out-one : (kind : Kind) (settings : Settings) (player : ℕ) (body : List ℕ) (held : Held) (reply : List ℕ) (r s : Answer) (x y : Held) (v w : List ℕ)
+    → left r x v ≡ carryOf kind settings player body held reply → left s y w ≡ carryOf kind settings player body held reply
     → (r ≡ s) × (x ≡ y) × (v ≡ w)
-carry-out-one settings player body held reply r s x y v w = left-one
+carry-out-one kind settings player body held reply r s x y v w = left-one
 
 pub refused-one : (number : ℕ) (r s : Answer) → r ≡ refused number → s ≡ refused number → r ≡ s
 refused-one number r s = one
@@ -32,3 +33,6 @@ answer-length-one answer r s = one
 
 pub order-number-one : (order : Order) (r s : ℕ) → r ≡ orderNumber order → s ≡ orderNumber order → r ≡ s
 order-number-one order r s = one
+
+pub longest-one : (kind : Kind) (r s : ℕ) → r ≡ longest kind → s ≡ longest kind → r ≡ s
+longest-one kind r s = one

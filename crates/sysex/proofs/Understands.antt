@@ -17,8 +17,10 @@ use Rattle.halves.proofs.Laws.{length-split, length-join, join-bytes, split-hal
 use Rattle.sysex.specs.declared.Settings.{Settings}
 use Rattle.sysex.specs.declared.Order.{Order}
 use Rattle.sysex.specs.declared.Order.the-variants.{Refused}
+use Rattle.kinds.specs.declared.Kind.{Kind}
+use Rattle.kinds.specs.Kinds.{headerOf}
 use Rattle.programs.specs.Held.{Target, One, Edit, All, countFor}
-use Rattle.sysex.specs.Forms.{header, begins, opcodeOf, typeOf, programOf, request, program, edit, versionPlace, dataPlace, dataCount, bodyLength}
+use Rattle.sysex.specs.Forms.{begins, opcodeOf, typeOf, programOf, request, program, edit, versionPlace, dataPlace, dataCount, bodyLength}
 use Rattle.sysex.specs.Forms.{typeFor, ppFor, requestBody, identityBody, isIdentity, isOurChannel}
 use Rattle.sysex.specs.Judging.{hasForm, hasProgram, furtherTests, testsOf, orderOf, formOrder, bodyOrder, judgeOf}
 use Rattle.sysex.specs.Private.{HasData, Fits}
@@ -35,10 +37,10 @@ begun (x ∷ start) (b ∷ body) t =
     let rest = begun start body (p .1) in
     λ i. same i ∷ rest i
 
-module _ (size : ℕ) (body : List ℕ) (r : Right size body) where
+module _ (kind : Kind) (body : List ℕ) (r : Right kind body) where
   -- header, opcode, type, and what stands behind them
-  opened : body ≡ header ++ (opcodeOf body ∷ typeOf body ∷ drop 7 body)
-  opened = let long = r .long in begun header body (r .ours) ∙ ap (λ (rest : List ℕ). header ++ rest) (drop-two body 5 (omega arith))
+  opened : body ≡ (headerOf kind) ++ (opcodeOf body ∷ typeOf body ∷ drop 7 body)
+  opened = let long = r .long in begun (headerOf kind) body (r .ours) ∙ ap (λ (rest : List ℕ). (headerOf kind) ++ rest) (drop-two body 5 (omega arith))
 
   module _ (d : eqb (opcodeOf body) request ≡ true) where
     is-request : opcodeOf body ≡ 0
@@ -49,13 +51,13 @@ module _ (size : ℕ) (body : List ℕ) (r : Right size body) where
     whole-request = rw d at (r .whole)
 
     -- nothing behind the type, or the program alone
-    request-plain : (t : Target) → typeOf body ≡ typeFor t → versionPlace (typeFor t) ≡ 7 → requestBody t ≡ header ++ (0 ∷ typeFor t ∷ []) → There t → IsRequest t body
+    request-plain : (t : Target) → typeOf body ≡ typeFor t → versionPlace (typeFor t) ≡ 7 → requestBody kind t ≡ (headerOf kind) ++ (0 ∷ typeFor t ∷ []) → There t → IsRequest kind t body
     request-plain t e v f h =
         let whole = rw e at whole-request in
         let nothing : drop 7 body ≡ [] = drop-of-length-le body {i = 7} (omega arith) in
         record { there = h; form = opened ∙ (rw (is-request, e, nothing, f)) }
 
-    request-one : eqb (typeOf body) program ≡ true → IsRequest (One (programOf body)) body
+    request-one : eqb (typeOf body) program ≡ true → IsRequest kind (One (programOf body)) body
     unfolding hasProgram
     request-one t =
         let e = eqb-true (typeOf body) program t in
@@ -70,23 +72,23 @@ module _ (size : ℕ) (body : List ℕ) (r : Right size body) where
     is-dump : opcodeOf body ≡ 1
     is-dump = let small = r .opcode in let some = eqb-false (opcodeOf body) request d in omega arith
 
-    whole-dump : length body ≡ dataPlace (typeOf body) + dataCount size (typeOf body)
+    whole-dump : length body ≡ dataPlace (typeOf body) + dataCount kind (typeOf body)
     unfolding bodyLength
     whole-dump = rw d at (r .whole)
 
     -- the data are the halves of the bytes that they join to
-    data-halves : (t : Target) → typeOf body ≡ typeFor t → dataCount size (typeFor t) ≡ 2 * countFor size t
-        → (drop (dataPlace (typeFor t)) body ≡ split (join (drop (dataPlace (typeFor t)) body))) × (length (join (drop (dataPlace (typeFor t)) body)) ≡ countFor size t)
+    data-halves : (t : Target) → typeOf body ≡ typeFor t → dataCount kind (typeFor t) ≡ 2 * countFor kind t
+        → (drop (dataPlace (typeFor t)) body ≡ split (join (drop (dataPlace (typeFor t)) body))) × (length (join (drop (dataPlace (typeFor t)) body)) ≡ countFor kind t)
         × (allAtMost 0xFF (join (drop (dataPlace (typeFor t)) body)) ≡ true)
     data-halves t e k =
         let place = dataPlace (typeFor t) in
         let halves = rw e at (r .halves d) in
         let whole = rw e at whole-dump in
-        let long : length (drop place body) ≡ 2 * countFor size t = omega (arith, length-drop place body) in
-        (sym (split-join (drop place body) (countFor size t) long halves), omega (arith, length-join (drop place body)), join-bytes (drop place body) halves)
+        let long : length (drop place body) ≡ 2 * countFor kind t = omega (arith, length-drop place body) in
+        (sym (split-join (drop place body) (countFor kind t) long halves), omega (arith, length-join (drop place body)), join-bytes (drop place body) halves)
 
-    dump-plain : (t : Target) → typeOf body ≡ typeFor t → versionPlace (typeFor t) ≡ 7 → ppFor t ≡ [] → dataCount size (typeFor t) ≡ 2 * countFor size t → There t
-        → IsDump size t (join (drop 8 body)) body
+    dump-plain : (t : Target) → typeOf body ≡ typeFor t → versionPlace (typeFor t) ≡ 7 → ppFor t ≡ [] → dataCount kind (typeFor t) ≡ 2 * countFor kind t → There t
+        → IsDump kind t (join (drop 8 body)) body
     dump-plain t e v p k h =
         let x = rw v at (data-halves t e k) in
         let version = rw (e, v) at (r .version d) in
@@ -98,7 +100,7 @@ module _ (size : ℕ) (body : List ℕ) (r : Right size body) where
           form = opened ∙ (rw (is-dump, e, p, drop-one body 7 (omega arith), version, ← x .0));
         }
 
-    dump-one : eqb (typeOf body) program ≡ true → IsDump size (One (programOf body)) (join (drop 9 body)) body
+    dump-one : eqb (typeOf body) program ≡ true → IsDump kind (One (programOf body)) (join (drop 9 body)) body
     unfolding hasProgram
     dump-one t =
         let e = eqb-true (typeOf body) program t in
@@ -112,26 +114,26 @@ module _ (size : ℕ) (body : List ℕ) (r : Right size body) where
           form = opened ∙ (rw (is-dump, e, drop-two body 7 (omega arith), version, ← x .0));
         }
 
-module _ (size : ℕ) (settings : Settings) (body : List ℕ) where
+module _ (kind : Kind) (settings : Settings) (body : List ℕ) where
   abbrev Means : Order → Type 0
-  Means o = Meant size settings body o
+  Means o = Meant kind settings body o
 
-  order-meant : Right size body → Means (formOrder body)
+  order-meant : Right kind body → Means (formOrder body)
   unfolding orderOf
   order-meant r =
       let all-left : eqb (typeOf body) program ≡ false → eqb (typeOf body) edit ≡ false → typeOf body ≡ 2 = λ t u.
       let not-program = eqb-false (typeOf body) program t in let not-edit = eqb-false (typeOf body) edit u in let small = r .type in omega arith in
       by Means (eqb (opcodeOf body) request) _ _
       (λ d. by Means (eqb (typeOf body) program) _ _
-      (λ t. asked (One (programOf body)) (request-one size body r d t))
+      (λ t. asked (One (programOf body)) (request-one kind body r d t))
       (λ t. by Means (eqb (typeOf body) edit) _ _
-      (λ u. asked Edit (request-plain size body r d Edit (eqb-true _ _ u) refl refl tt))
-      (λ u. asked All (request-plain size body r d All (all-left t u) refl refl tt))))
+      (λ u. asked Edit (request-plain kind body r d Edit (eqb-true _ _ u) refl refl tt))
+      (λ u. asked All (request-plain kind body r d All (all-left t u) refl refl tt))))
       (λ d. by Means (eqb (typeOf body) program) _ _
-      (λ t. dumped (One (programOf body)) (dump-one size body r d t))
+      (λ t. dumped (One (programOf body)) (dump-one kind body r d t))
       (λ t. by Means (eqb (typeOf body) edit) _ _
-      (λ u. dumped Edit (dump-plain size body r d Edit (eqb-true _ _ u) refl refl refl tt))
-      (λ u. dumped All (dump-plain size body r d All (all-left t u) refl refl refl tt))))
+      (λ u. dumped Edit (dump-plain kind body r d Edit (eqb-true _ _ u) refl refl refl tt))
+      (λ u. dumped All (dump-plain kind body r d All (all-left t u) refl refl refl tt))))
 
   identity-meant : isIdentity body ≡ true → isOurChannel settings (getD body 2 0) ≡ true → IsIdentity settings (getD body 2 0) body
   unfolding isIdentity
@@ -143,25 +145,25 @@ module _ (size : ℕ) (settings : Settings) (body : List ℕ) where
       let nothing : drop 5 body ≡ [] = drop-of-length-le body {i = 5} (omega arith) in
       record { low = leb-true _ _ (q .0); ours = o; form = begun (identityBody cc) body (q .1) ∙ (rw nothing) }
 
-  pub passed-meant : AllHold (testsOf size settings body) → Means (bodyOrder body)
+  pub passed-meant : AllHold (testsOf kind settings body) → Means (bodyOrder body)
   unfolding hasForm furtherTests bodyOrder
   passed-meant a =
       by Means (isIdentity body) _ _
       (λ i. let further = rw i at (a .1) in identity (getD body 2 0) (identity-meant i (further .0)))
-      (λ i. let ours = rw i at (a .0) in order-meant (right size body ours (rw i at (a .1))))
+      (λ i. let ours = rw i at (a .0) in order-meant (right kind body ours (rw i at (a .1))))
 
-  pub meant : Means (judgeOf size settings body)
+  pub meant : Means (judgeOf kind settings body)
   unfolding judgeOf
-  meant = tested-cases Means (testsOf size settings body) Refused (bodyOrder body) passed-meant (λ check _. unsaid check)
+  meant = tested-cases Means (testsOf kind settings body) Refused (bodyOrder body) passed-meant (λ check _. unsaid check)
 
 -- what an order needs of its body to be carried out
-module _ (size : ℕ) (settings : Settings) (body : List ℕ) where
-  has-data : (t : Target) (bytes : List ℕ) → IsDump size t bytes body → HasData (typeFor t) (countFor size t) body
+module _ (kind : Kind) (settings : Settings) (body : List ℕ) where
+  has-data : (t : Target) (bytes : List ℕ) → IsDump kind t bytes body → HasData (typeFor t) (countFor kind t) body
   has-data (One p) bytes d = rw (d .form) (omega (arith, length-split bytes, d .count), split-halves bytes (d .whole-bytes))
   has-data Edit bytes d = rw (d .form) (omega (arith, length-split bytes, d .count), split-halves bytes (d .whole-bytes))
   has-data All bytes d = rw (d .form) (omega (arith, length-split bytes, d .count), split-halves bytes (d .whole-bytes))
 
-  fits : (o : Order) → Meant size settings body o → Fits size o body
+  fits : (o : Order) → Meant kind settings body o → Fits kind o body
   fits o (identity channel i) = tt
   fits o (asked (One p) q) = q .there
   fits o (asked Edit q) = tt
@@ -171,5 +173,5 @@ module _ (size : ℕ) (settings : Settings) (body : List ℕ) where
   fits o (dumped All d) = has-data All _ d
   fits o (unsaid check) = tt
 
-  pub judged-fits : Fits size (judgeOf size settings body) body
-  judged-fits = fits (judgeOf size settings body) (meant size settings body)
+  pub judged-fits : Fits kind (judgeOf kind settings body) body
+  judged-fits = fits (judgeOf kind settings body) (meant kind settings body)

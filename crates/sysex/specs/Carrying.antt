@@ -7,6 +7,7 @@ use Rattle.ground.specs.Tests.{Test, test, tested}
 use Rattle.ground.specs.Calls as any
 use Rattle.ground.specs.Calls.{outcome, left, leaves}
 use Rattle.halves.specs.HalfBytes.{join}
+use Rattle.kinds.specs.declared.Kind.{Kind}
 use Rattle.programs.specs.Memory.{memorySize}
 use Rattle.programs.specs.Held.{Held, Target, One, Edit, All, bytesIn, storeIn}
 use Rattle.sysex.specs.declared.Settings.{Settings}
@@ -32,38 +33,38 @@ abbrev pub sending : List ℕ → Held → Outcome
 sending bytes held = outcome (Sent (length bytes)) held bytes
 
 -- "Requests are answered by the dump with the same type"
-abbrev pub answering : ℕ → ℕ → Target → Held → Outcome
-answering size player t held = sending (ended (dumpBody t (bytesIn size player t held))) held
+abbrev pub answering : Kind → ℕ → Target → Held → Outcome
+answering kind player t held = sending (ended (dumpBody kind t (bytesIn kind player t held))) held
 
 -- the bytes of a dump's data become what it names
-abbrev pub storing : ℕ → ℕ → Target → List ℕ → Held → Outcome
-storing size player t body held = outcome Stored (storeIn size player t (join (drop (dataPlace (typeFor t)) body)) held) []
+abbrev pub storing : Kind → ℕ → Target → List ℕ → Held → Outcome
+storing kind player t body held = outcome Stored (storeIn kind player t (join (drop (dataPlace (typeFor t)) body)) held) []
 
 -- the order of a player's message
-unfoldable pub orderDoes : ℕ → Settings → ℕ → Order → List ℕ → Held → Outcome
-orderDoes size settings player (order.Identify cc) body held = sending (identityReply settings cc) held
-orderDoes size settings player (order.SendProgram p) body held = answering size player (One p) held
-orderDoes size settings player order.SendEdit body held = answering size player Edit held
-orderDoes size settings player order.SendAll body held = answering size player All held
-orderDoes size settings player (order.StoreProgram p) body held = storing size player (One p) body held
-orderDoes size settings player order.StoreEdit body held = storing size player Edit body held
-orderDoes size settings player order.StoreAll body held = storing size player All body held
-orderDoes size settings player (order.Refused check) body held = refusing held (checkNumber check)
+unfoldable pub orderDoes : Kind → Settings → ℕ → Order → List ℕ → Held → Outcome
+orderDoes kind settings player (order.Identify cc) body held = sending (identityReply kind settings cc) held
+orderDoes kind settings player (order.SendProgram p) body held = answering kind player (One p) held
+orderDoes kind settings player order.SendEdit body held = answering kind player Edit held
+orderDoes kind settings player order.SendAll body held = answering kind player All held
+orderDoes kind settings player (order.StoreProgram p) body held = storing kind player (One p) body held
+orderDoes kind settings player order.StoreEdit body held = storing kind player Edit body held
+orderDoes kind settings player order.StoreAll body held = storing kind player All body held
+orderDoes kind settings player (order.Refused check) body held = refusing held (checkNumber check)
 
 -- what a body does
-abbrev pub bodyDoes : ℕ → Settings → ℕ → List ℕ → Held → Outcome
-bodyDoes size settings player body held = orderDoes size settings player (judgeOf size settings body) body held
+abbrev pub bodyDoes : Kind → Settings → ℕ → List ℕ → Held → Outcome
+bodyDoes kind settings player body held = orderDoes kind settings player (judgeOf kind settings body) body held
 
 -- 30 "a lent buffer too short": what the box holds, and a receive or a reply buffer
-abbrev pub heldTest : ℕ → Held → Test ℕ
-heldTest size held = test 30 (leb (memorySize size) (length (held .memory)))
+abbrev pub heldTest : Kind → Held → Test ℕ
+heldTest kind held = test 30 (leb (memorySize kind) (length (held .memory)))
 
-abbrev pub bufferTest : ℕ → List ℕ → Test ℕ
-bufferTest size buffer = test 30 (leb (longest size) (length buffer))
+abbrev pub bufferTest : Kind → List ℕ → Test ℕ
+bufferTest kind buffer = test 30 (leb (longest kind) (length buffer))
 
-abbrev pub carryTests : ℕ → Held → List ℕ → List (Test ℕ)
-carryTests size held reply = heldTest size held ∷ bufferTest size reply ∷ []
+abbrev pub carryTests : Kind → Held → List ℕ → List (Test ℕ)
+carryTests kind held reply = heldTest kind held ∷ bufferTest kind reply ∷ []
 
-unfoldable pub carryOf : ℕ → Settings → ℕ → List ℕ → Held → List ℕ → Left
-carryOf size settings player body held reply =
-    tested (carryTests size held reply) (λ number. left (refused number) held reply) (leaves (bodyDoes size settings player body held) reply)
+unfoldable pub carryOf : Kind → Settings → ℕ → List ℕ → Held → List ℕ → Left
+carryOf kind settings player body held reply =
+    tested (carryTests kind held reply) (λ number. left (refused number) held reply) (leaves (bodyDoes kind settings player body held) reply)

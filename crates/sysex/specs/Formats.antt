@@ -6,6 +6,7 @@ use mathlib.Core.Path.{_≡_}
 use lib.ListN.{length, drop}
 use Rattle.ground.specs.Lists.{allAtMost}
 use Rattle.halves.specs.HalfBytes.{join}
+use Rattle.kinds.specs.declared.Kind.{Kind}
 use Rattle.programs.specs.Memory.{lastProgram}
 use Rattle.programs.specs.Held.{Target, One, Edit, All, countFor}
 use Rattle.sysex.specs.declared.Settings.{Settings}
@@ -20,15 +21,15 @@ There (One p) = p ≤ lastProgram
 There Edit = Unit {0}
 There All = Unit {0}
 
-pub record IsDump (size : ℕ) (t : Target) (bytes body : List ℕ) : Type 0 where
+pub record IsDump (kind : Kind) (t : Target) (bytes body : List ℕ) : Type 0 where
   pub there : There t
-  pub count : length bytes ≡ countFor size t
+  pub count : length bytes ≡ countFor kind t
   pub whole-bytes : allAtMost 0xFF bytes ≡ true
-  pub form : body ≡ dumpBody t bytes
+  pub form : body ≡ dumpBody kind t bytes
 
-pub record IsRequest (t : Target) (body : List ℕ) : Type 0 where
+pub record IsRequest (kind : Kind) (t : Target) (body : List ℕ) : Type 0 where
   pub there : There t
-  pub form : body ≡ requestBody t
+  pub form : body ≡ requestBody kind t
 
 -- an identity request that is ours
 pub record IsIdentity (settings : Settings) (cc : ℕ) (body : List ℕ) : Type 0 where
@@ -48,8 +49,8 @@ storeOrder Edit = StoreEdit
 storeOrder All = StoreAll
 
 -- what an order says of a body: it is of the order's format; of a refusal nothing is said
-pub data Meant (size : ℕ) (settings : Settings) (body : List ℕ) : Order → Type 0 where
-  identity : (cc : ℕ) → IsIdentity settings cc body → Meant size settings body (Identify cc)
-  asked : (t : Target) → IsRequest t body → Meant size settings body (sendOrder t)
-  dumped : (t : Target) → IsDump size t (join (drop (dataPlace (typeFor t)) body)) body → Meant size settings body (storeOrder t)
-  unsaid : (check : Check) → Meant size settings body (Refused check)
+pub data Meant (kind : Kind) (settings : Settings) (body : List ℕ) : Order → Type 0 where
+  identity : (cc : ℕ) → IsIdentity settings cc body → Meant kind settings body (Identify cc)
+  asked : (t : Target) → IsRequest kind t body → Meant kind settings body (sendOrder t)
+  dumped : (t : Target) → IsDump kind t (join (drop (dataPlace (typeFor t)) body)) body → Meant kind settings body (storeOrder t)
+  unsaid : (check : Check) → Meant kind settings body (Refused check)

@@ -5,13 +5,11 @@ use mathlib.Core.List.{List, [], _∷_, _++_}
 use lib.Dec.{eqb, leb}
 use lib.ListN.{length, getD}
 use Rattle.halves.specs.HalfBytes.{split}
+use Rattle.kinds.specs.declared.Kind.{Kind}
+use Rattle.kinds.specs.Kinds.{sizeOf, headerOf, identityOf}
 use Rattle.programs.specs.Memory.{allSize}
 use Rattle.programs.specs.Held.{Target, One, Edit, All}
 use Rattle.sysex.specs.declared.Settings.{Settings}
-
--- "All the rest begins F0 00 01 0C 01"
-abbrev pub header : List ℕ
-header = 0xF0 ∷ 0x00 ∷ 0x01 ∷ 0x0C ∷ 0x01 ∷ []
 
 -- a list's first bytes are those of another
 abbrev pub begins : List ℕ → List ℕ → Bool
@@ -57,26 +55,26 @@ versionPlace type = cond (eqb type program) 8 7
 abbrev pub dataPlace : ℕ → ℕ
 dataPlace type = versionPlace type + 1
 
--- "144 data bytes", "5,184": two for each byte
-abbrev pub dataCount : ℕ → ℕ → ℕ
-dataCount size type = cond (eqb type all) (2 * allSize size) (2 * size)
+-- "144 data bytes", "5,184"; "160 half bytes", "5,760 half bytes": two for each byte
+abbrev pub dataCount : Kind → ℕ → ℕ
+dataCount kind type = cond (eqb type all) (2 * allSize kind) (2 * sizeOf kind)
 
 -- "Whole length", less F7 and with it: a request ends where a dump has its version
-unfoldable pub bodyLength : ℕ → ℕ → ℕ → ℕ
-bodyLength size opcode type = cond (eqb opcode request) (versionPlace type) (dataPlace type + dataCount size type)
+unfoldable pub bodyLength : Kind → ℕ → ℕ → ℕ
+bodyLength kind opcode type = cond (eqb opcode request) (versionPlace type) (dataPlace type + dataCount kind type)
 
-abbrev pub wholeLength : ℕ → ℕ → ℕ → ℕ
-wholeLength size opcode type = bodyLength size opcode type + 1
+abbrev pub wholeLength : Kind → ℕ → ℕ → ℕ
+wholeLength kind opcode type = bodyLength kind opcode type + 1
 
 -- the whole length of the longest message: an all programs dump
-abbrev pub longest : ℕ → ℕ
-longest size = dataPlace all + dataCount size all + 1
+abbrev pub longest : Kind → ℕ
+longest kind = dataPlace all + dataCount kind all + 1
 
 -- the column "Whole length" of the table of forms, in its order
-abbrev pub wholeLengths : ℕ → List ℕ
-wholeLengths size =
-    wholeLength size request program ∷ wholeLength size request edit ∷ wholeLength size request all
-    ∷ wholeLength size dump program ∷ wholeLength size dump edit ∷ wholeLength size dump all ∷ []
+abbrev pub wholeLengths : Kind → List ℕ
+wholeLengths kind =
+    wholeLength kind request program ∷ wholeLength kind request edit ∷ wholeLength kind request all
+    ∷ wholeLength kind dump program ∷ wholeLength kind dump edit ∷ wholeLength kind dump all ∷ []
 
 -- the type of what is named, and "pp"
 abbrev pub typeFor : Target → ℕ
@@ -89,15 +87,15 @@ ppFor (One p) = p ∷ []
 ppFor Edit = []
 ppFor All = []
 
--- a request's body, and a dump's: header, opcode, type, the program where there is one; and of a dump version 0 and the halves of its bytes
-abbrev pub requestBody : Target → List ℕ
-requestBody t = header ++ (request ∷ typeFor t ∷ ppFor t)
+-- a request's body, and a dump's: the kind's header, opcode, type, the program where there is one; and of a dump version 0 and the halves of its bytes
+abbrev pub requestBody : Kind → Target → List ℕ
+requestBody kind t = headerOf kind ++ (request ∷ typeFor t ∷ ppFor t)
 
-abbrev pub dumpStart : ℕ → List ℕ → List ℕ
-dumpStart type pp = header ++ (dump ∷ type ∷ (pp ++ (version ∷ [])))
+abbrev pub dumpStart : Kind → ℕ → List ℕ → List ℕ
+dumpStart kind type pp = headerOf kind ++ (dump ∷ type ∷ (pp ++ (version ∷ [])))
 
-abbrev pub dumpBody : Target → List ℕ → List ℕ
-dumpBody t bytes = dumpStart (typeFor t) (ppFor t) ++ split bytes
+abbrev pub dumpBody : Kind → Target → List ℕ → List ℕ
+dumpBody kind t bytes = dumpStart kind (typeFor t) (ppFor t) ++ split bytes
 
 -- "Identity: F0 7E cc 06 01 F7, cc at most 0x7F."
 abbrev pub identityBody : ℕ → List ℕ
@@ -110,11 +108,11 @@ isIdentity body = eqb (length body) 5 && (leb (getD body 2 0) 0x7F && begins (id
 unfoldable pub isOurChannel : Settings → ℕ → Bool
 isOurChannel settings cc = cond (eqb cc (settings .channel)) true (cond (eqb cc 0x7F) true (eqb (settings .omni) 1))
 
--- "The reply is 17 bytes: F0 7E cc 06 02 00 01 0C 00 00 00 01, four revision bytes, F7, with cc as received."
-abbrev pub identityReply : Settings → ℕ → List ℕ
-identityReply settings cc =
-    0xF0 ∷ 0x7E ∷ cc ∷ 0x06 ∷ 0x02 ∷ 0x00 ∷ 0x01 ∷ 0x0C ∷ 0x00 ∷ 0x00 ∷ 0x00 ∷ 0x01
-    ∷ settings .revision0 ∷ settings .revision1 ∷ settings .revision2 ∷ settings .revision3 ∷ 0xF7 ∷ []
+-- "The reply is 17 bytes: F0 7E cc 06 02 00 01 0C 00 00 00 01, four revision bytes, F7, with cc as received": 00 00 00 01 are the kind's identity bytes
+abbrev pub identityReply : Kind → Settings → ℕ → List ℕ
+identityReply kind settings cc =
+    0xF0 ∷ 0x7E ∷ cc ∷ 0x06 ∷ 0x02 ∷ 0x00 ∷ 0x01 ∷ 0x0C
+    ∷ (identityOf kind ++ (settings .revision0 ∷ settings .revision1 ∷ settings .revision2 ∷ settings .revision3 ∷ 0xF7 ∷ []))
 
 -- a whole message: its body, and F7
 abbrev pub ended : List ℕ → List ℕ

@@ -7,29 +7,31 @@ use lib.Dec.{eqb, leb}
 use lib.ListN.{length, getD, drop}
 use Rattle.ground.specs.Tests.{Test, test, tested}
 use Rattle.halves.specs.HalfBytes.{allHalves}
+use Rattle.kinds.specs.declared.Kind.{Kind}
+use Rattle.kinds.specs.Kinds.{deviceOf, headerOf}
 use Rattle.programs.specs.Memory.{lastProgram}
 use Rattle.sysex.specs.declared.Settings.{Settings}
 use Rattle.sysex.specs.declared.Check.{Check}
 use Rattle.sysex.specs.declared.Check.the-variants.{Ours, OpcodeAndType, Length, Program, Version, HalfBytes, Channel}
 use Rattle.sysex.specs.declared.Order.{Order}
 use Rattle.sysex.specs.declared.Order.the-variants.{Identify, SendProgram, SendEdit, SendAll, StoreProgram, StoreEdit, StoreAll, Refused}
-use Rattle.sysex.specs.Forms.{header, begins, opcodeOf, typeOf, programOf, request, dump, program, edit, all, version, versionPlace, dataPlace, bodyLength, wholeLength, isIdentity, isOurChannel}
+use Rattle.sysex.specs.Forms.{begins, opcodeOf, typeOf, programOf, request, dump, program, edit, all, version, versionPlace, dataPlace, bodyLength, wholeLength, isIdentity, isOurChannel}
 
 -- an order, unless a check fails
 abbrev pub judgedBy : List (Test Check) → Order → Order
 judgedBy tests order = tested tests Refused order
 
--- 11 "not ours": "Any other 7E message is 11." "All the rest begins F0 00 01 0C 01, else 11, too short included."
-unfoldable pub hasForm : List ℕ → Bool
-hasForm body = isIdentity body || begins header body
+-- 11 "not ours": "Any other 7E message is 11." "All the rest begins F0 00 01 0C 01", or the kind's own header, "else 11, too short included."
+unfoldable pub hasForm : Kind → List ℕ → Bool
+hasForm kind body = isIdentity body || begins (headerOf kind) body
 
 -- 12 "opcode or type unknown or missing"
 abbrev pub isKnown : List ℕ → Bool
 isKnown body = leb 7 (length body) && (leb (opcodeOf body) dump && leb (typeOf body) all)
 
 -- 13 "wrong length"
-abbrev pub hasLength : ℕ → List ℕ → Bool
-hasLength size body = eqb (length body) (bodyLength size (opcodeOf body) (typeOf body))
+abbrev pub hasLength : Kind → List ℕ → Bool
+hasLength kind body = eqb (length body) (bodyLength kind (opcodeOf body) (typeOf body))
 
 -- 14 "program above 0x23"
 unfoldable pub hasProgram : ℕ → ℕ → Bool
@@ -47,10 +49,10 @@ fieldTests opcode type body =
     test (Program lastProgram) (hasProgram type (programOf body))
     ∷ cond (eqb opcode request) [] (dataTests type body)
 
-abbrev pub formTests : ℕ → List ℕ → List (Test Check)
-formTests size body =
+abbrev pub formTests : Kind → List ℕ → List (Test Check)
+formTests kind body =
     test OpcodeAndType (isKnown body)
-    ∷ test (Length (wholeLength size (opcodeOf body) (typeOf body))) (hasLength size body)
+    ∷ test (Length (wholeLength kind (opcodeOf body) (typeOf body))) (hasLength kind body)
     ∷ fieldTests (opcodeOf body) (typeOf body) body
 
 -- "Taken when cc is the channel, or 7F, or omni is on; else 22."
@@ -58,11 +60,11 @@ abbrev pub identityTests : Settings → ℕ → List (Test Check)
 identityTests settings cc = test (Channel (settings .channel)) (isOurChannel settings cc) ∷ []
 
 -- behind 11: an identity request is judged by its channel alone
-unfoldable pub furtherTests : ℕ → Settings → List ℕ → List (Test Check)
-furtherTests size settings body = cond (isIdentity body) (identityTests settings (getD body 2 0)) (formTests size body)
+unfoldable pub furtherTests : Kind → Settings → List ℕ → List (Test Check)
+furtherTests kind settings body = cond (isIdentity body) (identityTests settings (getD body 2 0)) (formTests kind body)
 
-abbrev pub testsOf : ℕ → Settings → List ℕ → List (Test Check)
-testsOf size settings body = test Ours (hasForm body) ∷ furtherTests size settings body
+abbrev pub testsOf : Kind → Settings → List ℕ → List (Test Check)
+testsOf kind settings body = test (Ours (deviceOf kind)) (hasForm kind body) ∷ furtherTests kind settings body
 
 -- what a body that passes them all asks for
 unfoldable pub orderOf : ℕ → ℕ → ℕ → Order
@@ -78,5 +80,5 @@ unfoldable pub bodyOrder : List ℕ → Order
 bodyOrder body = cond (isIdentity body) (Identify (getD body 2 0)) (formOrder body)
 
 -- the judge: what a body asks for, or the first check that fails
-unfoldable pub judgeOf : ℕ → Settings → List ℕ → Order
-judgeOf size settings body = judgedBy (testsOf size settings body) (bodyOrder body)
+unfoldable pub judgeOf : Kind → Settings → List ℕ → Order
+judgeOf kind settings body = judgedBy (testsOf kind settings body) (bodyOrder body)

@@ -1,4 +1,5 @@
 pub mod Forms
+pub mod Lengths
 pub mod Numbers
 pub mod Judging
 pub mod Carrying

@@ -37,7 +37,7 @@ answerLength (Refused r) = 0
 -- 10 "SysEx too long", 11 "not ours", and so on: the number of a check that fails
 abbrev pub checkNumber : Check → ℕ
 checkNumber (check.TooLong most) = 10
-checkNumber check.Ours = 11
+checkNumber (check.Ours device) = 11
 checkNumber check.OpcodeAndType = 12
 checkNumber (check.Length right) = 13
 checkNumber (check.Program highest) = 14

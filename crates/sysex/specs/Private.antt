@@ -7,6 +7,8 @@ use mathlib.Core.Path.{_≡_}
 use lib.ListN.{length, drop}
 use Rattle.ground.specs.Calls.{leaves}
 use Rattle.halves.specs.HalfBytes.{split, allHalves}
+use Rattle.kinds.specs.declared.Kind.{Kind}
+use Rattle.kinds.specs.Kinds.{sizeOf}
 use Rattle.programs.specs.Memory.{lastProgram, allSize, partOf}
 use Rattle.programs.specs.Held.{heldOf}
 use Rattle.sysex.specs.declared.Order.{Order}
@@ -19,16 +21,16 @@ abbrev pub HasData : ℕ → ℕ → List ℕ → Type 0
 HasData type count body = (length body ≡ dataPlace type + 2 * count) × (allHalves (drop (dataPlace type) body) ≡ true)
 
 -- the program is one of the 36, and a dump has its data
-abbrev pub Fits : ℕ → Order → List ℕ → Type 0
-Fits size (order.Identify cc) body = Unit {0}
-Fits size (order.SendProgram p) body = p ≤ lastProgram
-Fits size order.SendEdit body = Unit {0}
-Fits size order.SendAll body = Unit {0}
-Fits size (order.StoreProgram p) body = (p ≤ lastProgram) × HasData program size body
-Fits size order.StoreEdit body = HasData edit size body
-Fits size order.StoreAll body = HasData all (allSize size) body
-Fits size (order.Refused check) body = Unit {0}
+abbrev pub Fits : Kind → Order → List ℕ → Type 0
+Fits kind (order.Identify cc) body = Unit {0}
+Fits kind (order.SendProgram p) body = p ≤ lastProgram
+Fits kind order.SendEdit body = Unit {0}
+Fits kind order.SendAll body = Unit {0}
+Fits kind (order.StoreProgram p) body = (p ≤ lastProgram) × HasData program (sizeOf kind) body
+Fits kind order.StoreEdit body = HasData edit (sizeOf kind) body
+Fits kind order.StoreAll body = HasData all (allSize kind) body
+Fits kind (order.Refused check) body = Unit {0}
 
 -- the dump of a part of memory, sent
-abbrev pub partSent : ℕ → List ℕ → ℕ → ℕ → List ℕ → List ℕ → Left
-partSent type pp place count memory reply = leaves (sending (ended (dumpStart type pp ++ split (partOf place count memory))) (heldOf memory)) reply
+abbrev pub partSent : Kind → ℕ → List ℕ → ℕ → ℕ → List ℕ → List ℕ → Left
+partSent kind type pp place count memory reply = leaves (sending (ended (dumpStart kind type pp ++ split (partOf place count memory))) (heldOf memory)) reply

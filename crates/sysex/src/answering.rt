@@ -9,12 +9,14 @@ ghost use Rattle.sysex.specs.Forms.{dumpStart, identityReply, ended};
 use crate::Settings;
 use crate::bytes;
 use crate::judging;
+use kinds::Kind;
 
 // The identity reply is 17 bytes.
-pub(crate) fn identify(cc: u8, settings: Settings, reply: &mut [u8])
+pub(crate) fn identify(cc: u8, kind: Kind, settings: Settings, reply: &mut [u8])
     requires { ⌜ 17 ≤ length (now reply) ⌝ }
-    ensures { λ _. ⌜ now (reply .exit) ≡ written (identityReply settings cc) (now (reply .entry)) ⌝ }
+    ensures { λ _. ⌜ now (reply .exit) ≡ written (identityReply kind settings cc) (now (reply .entry)) ⌝ }
 {
+    let told = kinds::identity(kind);
     let identity = [
         0xF0,
         0x7E,
@@ -24,10 +26,10 @@ pub(crate) fn identify(cc: u8, settings: Settings, reply: &mut [u8])
         0x00,
         0x01,
         0x0C,
-        0x00,
-        0x00,
-        0x00,
-        0x01,
+        told[0],
+        told[1],
+        told[2],
+        told[3],
         settings.revision0,
         settings.revision1,
         settings.revision2,
@@ -38,13 +40,14 @@ pub(crate) fn identify(cc: u8, settings: Settings, reply: &mut [u8])
 }
 
 // A dump up to its data: header, opcode, type, the program where there is one, version 0. Returns the data's place.
-fn begin(typed: u8, pp: &[u8], reply: &mut [u8]) -> usize
+fn begin(typed: u8, pp: &[u8], kind: Kind, reply: &mut [u8]) -> usize
     requires { ⌜ length (now pp) ≤ 1 ⌝ }
     requires { ⌜ 9 ≤ length (now reply) ⌝ }
     ensures { λ r. ⌜ r ≡ 8 + length (now (pp .entry)) ⌝ }
-    ensures { λ _. ⌜ now (reply .exit) ≡ written (dumpStart typed (now (pp .entry))) (now (reply .entry)) ⌝ }
+    ensures { λ _. ⌜ now (reply .exit) ≡ written (dumpStart kind typed (now (pp .entry))) (now (reply .entry)) ⌝ }
 {
-    bytes::write(&judging::HEADER, reply, 0);
+    let header = kinds::header(kind);
+    bytes::write(&header, reply, 0);
     bytes::write(&[judging::DUMP, typed], reply, 5);
     bytes::write(pp, reply, 7);
     let version = 7 + pp.len();
@@ -53,13 +56,13 @@ fn begin(typed: u8, pp: &[u8], reply: &mut [u8]) -> usize
 }
 
 // A dump of some bytes. Returns its length.
-pub(crate) fn send(typed: u8, pp: &[u8], part: &[u8], reply: &mut [u8]) -> usize
+pub(crate) fn send(typed: u8, pp: &[u8], part: &[u8], kind: Kind, reply: &mut [u8]) -> usize
     requires { ⌜ length (now pp) ≤ 1 ⌝ }
     requires { ⌜ 2 * length (now part) + (9 + length (now pp)) ≤ length (now reply) ⌝ }
-    ensures { λ r. ⌜ r ≡ length (ended (dumpStart typed (now (pp .entry)) ++ split (now (part .entry)))) ⌝ }
-    ensures { λ _. ⌜ now (reply .exit) ≡ written (ended (dumpStart typed (now (pp .entry)) ++ split (now (part .entry)))) (now (reply .entry)) ⌝ }
+    ensures { λ r. ⌜ r ≡ length (ended (dumpStart kind typed (now (pp .entry)) ++ split (now (part .entry)))) ⌝ }
+    ensures { λ _. ⌜ now (reply .exit) ≡ written (ended (dumpStart kind typed (now (pp .entry)) ++ split (now (part .entry)))) (now (reply .entry)) ⌝ }
 {
-    let place = begin(typed, pp, reply);
+    let place = begin(typed, pp, kind, reply);
     let end = place + 2 * part.len();
     halves::split_into(part, &mut reply[place..end]);
     bytes::write(&[0xF7], reply, end);

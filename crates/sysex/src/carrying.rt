@@ -4,7 +4,7 @@ ghost use Prim.Native.Nat.{_≤_, _+_, _*_};
 ghost use lib.ListN.{length, drop};
 ghost use Rattle.ground.specs.Calls.{left, leaves};
 ghost use Rattle.halves.specs.HalfBytes.{join};
-ghost use Rattle.programs.specs.Memory.{allSize, memorySize, putPart};
+ghost use Rattle.programs.specs.Memory.{programCount, memorySize, putPart};
 ghost use Rattle.programs.specs.Held.{heldOf};
 ghost use Rattle.sysex.specs.Forms.{dataPlace, longest};
 ghost use Rattle.sysex.specs.Carrying.{orderDoes, carryOf};
@@ -15,50 +15,48 @@ use crate::Settings;
 use crate::answering;
 use crate::judging;
 use crate::numbers;
+use kinds::Kind;
 use programs::PROGRAMS;
 
-// What memory holds: the programs, and the edit buffer.
-const PARTS: usize = PROGRAMS + 1;
-
-pub(crate) fn carried(
+// Does what a player's body asks for.
+pub fn carry_out(
     body: &[u8],
-    settings: Settings,
     player: u32,
-    size: usize,
+    kind: Kind,
+    settings: Settings,
     memory: &mut [u8],
     reply: &mut [u8],
 ) -> Answer
-    requires { ⌜ (1 ≤ size) × (size ≤ 255) ⌝ }
-    ensures { λ r. ⌜ left r (heldOf (now (memory .exit))) (now (reply .exit)) ≡ carryOf size settings player (now (body .entry)) (heldOf (now (memory .entry))) (now (reply .entry)) ⌝ }
+    ensures { λ r. ⌜ left r (heldOf (now (memory .exit))) (now (reply .exit)) ≡ carryOf kind settings player (now (body .entry)) (heldOf (now (memory .entry))) (now (reply .entry)) ⌝ }
 {
-    if memory.len() < PARTS * size {
+    if memory.len() < programs::memory_size(kind) {
         return numbers::refused(30);
     }
-    if reply.len() < 8 + 2 * (PROGRAMS * size) + 1 {
+    if reply.len() < judging::longest(kind) {
         return numbers::refused(30);
     }
-    let order = judging::judged(body, settings, size);
-    act(order, body, settings, player, size, memory, reply)
+    let order = judging::judge(body, kind, settings);
+    act(order, body, player, kind, settings, memory, reply)
 }
 
 fn act(
     order: Order,
     body: &[u8],
-    settings: Settings,
     player: u32,
-    size: usize,
+    kind: Kind,
+    settings: Settings,
     memory: &mut [u8],
     reply: &mut [u8],
 ) -> Answer
-    requires { ⌜ (1 ≤ size) × (size ≤ 255) ⌝ }
-    requires { ⌜ (memorySize size ≤ length (now memory)) × (longest size ≤ length (now reply)) ⌝ }
-    requires { ⌜ Fits size order (now body) ⌝ }
-    ensures { λ r. ⌜ left r (heldOf (now (memory .exit))) (now (reply .exit)) ≡ leaves (orderDoes size settings player order (now (body .entry)) (heldOf (now (memory .entry)))) (now (reply .entry)) ⌝ }
+    requires { ⌜ (memorySize kind ≤ length (now memory)) × (longest kind ≤ length (now reply)) ⌝ }
+    requires { ⌜ Fits kind order (now body) ⌝ }
+    ensures { λ r. ⌜ left r (heldOf (now (memory .exit))) (now (reply .exit)) ≡ leaves (orderDoes kind settings player order (now (body .entry)) (heldOf (now (memory .entry)))) (now (reply .entry)) ⌝ }
 {
-    let edit = programs::edit_place(size as u8, player);
+    let edit = programs::edit_place(kind, player);
+    let size = kinds::size(kind) as usize;
     match order {
         Order::Identify(cc) => {
-            answering::identify(cc, settings, reply);
+            answering::identify(cc, kind, settings, reply);
             Answer::Sent(17)
         }
         Order::SendProgram(p) => {
@@ -67,12 +65,13 @@ fn act(
                 &[p],
                 p as usize * size,
                 size,
+                kind,
                 memory,
                 reply,
             )
         }
-        Order::SendEdit => answer(judging::EDIT, &[], edit, size, memory, reply),
-        Order::SendAll => answer(judging::ALL, &[], 0, PROGRAMS * size, memory, reply),
+        Order::SendEdit => answer(judging::EDIT, &[], edit, size, kind, memory, reply),
+        Order::SendAll => answer(judging::ALL, &[], 0, PROGRAMS * size, kind, memory, reply),
         Order::StoreProgram(p) => store(judging::PROGRAM, p as usize * size, size, body, memory),
         Order::StoreEdit => store(judging::EDIT, edit, size, body, memory),
         Order::StoreAll => store(judging::ALL, 0, PROGRAMS * size, body, memory),
@@ -86,16 +85,17 @@ fn answer(
     pp: &[u8],
     place: usize,
     count: usize,
+    kind: Kind,
     memory: &[u8],
     reply: &mut [u8],
 ) -> Answer
-    requires { ⌜ (length (now pp) ≤ 1) × (count ≤ allSize 255) ⌝ }
+    requires { ⌜ (length (now pp) ≤ 1) × (count ≤ programCount * 255) ⌝ }
     requires { ⌜ place + count ≤ length (now memory) ⌝ }
     requires { ⌜ 2 * count + (9 + length (now pp)) ≤ length (now reply) ⌝ }
-    ensures { λ r. ⌜ left r (heldOf (now (memory .entry))) (now (reply .exit)) ≡ partSent typed (now (pp .entry)) place count (now (memory .entry)) (now (reply .entry)) ⌝ }
+    ensures { λ r. ⌜ left r (heldOf (now (memory .entry))) (now (reply .exit)) ≡ partSent kind typed (now (pp .entry)) place count (now (memory .entry)) (now (reply .entry)) ⌝ }
 {
     let end = place + count;
-    let length = answering::send(typed, pp, &memory[place..end], reply);
+    let length = answering::send(typed, pp, &memory[place..end], kind, reply);
     Answer::Sent(length as u16)
 }
 

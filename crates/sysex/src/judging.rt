@@ -2,17 +2,16 @@
 ghost use mathlib.Core.Path.{_≡_};
 ghost use Prim.Native.Nat.{_≤_, _+_, _*_};
 ghost use lib.ListN.{length};
-ghost use Rattle.programs.specs.Memory.{allSize};
+ghost use Rattle.kinds.specs.Kinds.{deviceOf};
+ghost use Rattle.programs.specs.Memory.{programCount};
 ghost use Rattle.sysex.specs.Forms.{programOf, versionPlace, dataPlace, dataCount, bodyLength, longest, isIdentity, isOurChannel};
 ghost use Rattle.sysex.specs.Judging.{judgedBy, identityTests, formTests, fieldTests, dataTests, hasProgram, orderOf, formOrder, judgeOf};
 use crate::Check;
 use crate::Order;
 use crate::Settings;
 use crate::bytes;
+use kinds::Kind;
 use programs::PROGRAMS;
-
-// How every message but an identity request begins, and every dump that is sent.
-pub(crate) const HEADER: [u8; 5] = *b"\xF0\x00\x01\x0C\x01";
 
 // The opcodes, and the types (`typed` in this crate: `type` is a word of the language).
 const REQUEST: u8 = 0;
@@ -32,17 +31,18 @@ const LAST: u8 = PROGRAMS as u8 - 1;
 
 const HALF: u8 = 0x0F;
 
-pub(crate) fn judged(body: &[u8], settings: Settings, size: usize) -> Order
-    requires { ⌜ size ≤ 255 ⌝ }
-    ensures { λ r. ⌜ r ≡ judgeOf size settings (now (body .entry)) ⌝ }
+// What a body asks for.
+pub fn judge(body: &[u8], kind: Kind, settings: Settings) -> Order
+    ensures { λ r. ⌜ r ≡ judgeOf kind settings (now (body .entry)) ⌝ }
 {
     if is_identity(body) {
         return identified(settings, bytes::byte_at(body, 2));
     }
-    if bytes::starts(&HEADER, body) {
-        return form_judged(body, size);
+    let header = kinds::header(kind);
+    if bytes::starts(&header, body) {
+        return form_judged(body, kind);
     }
-    Order::Refused(Check::Ours)
+    Order::Refused(Check::Ours(kinds::device(kind)))
 }
 
 fn is_identity(body: &[u8]) -> bool
@@ -80,9 +80,8 @@ fn is_our_channel(settings: Settings, cc: u8) -> bool
 }
 
 // A body that begins with the header.
-fn form_judged(body: &[u8], size: usize) -> Order
-    requires { ⌜ size ≤ 255 ⌝ }
-    ensures { λ r. ⌜ r ≡ judgedBy (formTests size (now (body .entry))) (formOrder (now (body .entry))) ⌝ }
+fn form_judged(body: &[u8], kind: Kind) -> Order
+    ensures { λ r. ⌜ r ≡ judgedBy (formTests kind (now (body .entry))) (formOrder (now (body .entry))) ⌝ }
 {
     if body.len() < 7 {
         return Order::Refused(Check::OpcodeAndType);
@@ -95,30 +94,36 @@ fn form_judged(body: &[u8], size: usize) -> Order
     if ALL < typed {
         return Order::Refused(Check::OpcodeAndType);
     }
-    let length = body_length(size, opcode, typed);
+    let length = body_length(kind, opcode, typed);
     if body.len() != length {
         return Order::Refused(Check::Length(length as u16 + 1));
     }
-    fields_judged(body, size, opcode, typed)
+    fields_judged(body, kind, opcode, typed)
 }
 
 // The length of a body of this opcode and type.
-fn body_length(size: usize, opcode: u8, typed: u8) -> usize
-    requires { ⌜ size ≤ 255 ⌝ }
-    ensures { λ r. ⌜ (r ≡ bodyLength size opcode typed) × (r ≤ longest 255) ⌝ }
+fn body_length(kind: Kind, opcode: u8, typed: u8) -> usize
+    ensures { λ r. ⌜ (r ≡ bodyLength kind opcode typed) × (r ≤ 9 + 2 * (programCount * 255)) ⌝ }
 {
     let version = version_place(typed);
     if opcode == REQUEST {
         return version;
     }
-    version + 1 + data_count(size, typed)
+    version + 1 + data_count(kind, typed)
+}
+
+// The whole length of the longest message: an all programs dump.
+pub fn longest(kind: Kind) -> usize
+    ensures { λ r. ⌜ r ≡ longest kind ⌝ }
+{
+    version_place(ALL) + 1 + data_count(kind, ALL) + 1
 }
 
 // How many half bytes a dump has.
-fn data_count(size: usize, typed: u8) -> usize
-    requires { ⌜ size ≤ 255 ⌝ }
-    ensures { λ r. ⌜ (r ≡ dataCount size typed) × (r ≤ 2 * allSize 255) ⌝ }
+fn data_count(kind: Kind, typed: u8) -> usize
+    ensures { λ r. ⌜ (r ≡ dataCount kind typed) × (r ≤ 2 * (programCount * 255)) ⌝ }
 {
+    let size = kinds::size(kind) as usize;
     if typed == ALL {
         2 * (PROGRAMS * size)
     } else {
@@ -126,8 +131,8 @@ fn data_count(size: usize, typed: u8) -> usize
     }
 }
 
-fn fields_judged(body: &[u8], size: usize, opcode: u8, typed: u8) -> Order
-    requires { ⌜ length (now body) ≡ bodyLength size opcode typed ⌝ }
+fn fields_judged(body: &[u8], kind: Kind, opcode: u8, typed: u8) -> Order
+    requires { ⌜ length (now body) ≡ bodyLength kind opcode typed ⌝ }
     ensures { λ r. ⌜ r ≡ judgedBy (fieldTests opcode typed (now (body .entry))) (orderOf opcode typed (programOf (now (body .entry)))) ⌝ }
 {
     let number = bytes::byte_at(body, 7);

@@ -6,17 +6,13 @@ mod carrying;
 mod judging;
 mod numbers;
 
-ghost use mathlib.Core.Path.{_≡_};
-ghost use Rattle.ground.specs.Calls.{left};
-ghost use Rattle.programs.specs.Memory.{programSize};
-ghost use Rattle.programs.specs.Held.{heldOf};
-ghost use Rattle.sysex.specs.Judging.{judgeOf};
-ghost use Rattle.sysex.specs.Carrying.{carryOf};
+pub use carrying::carry_out;
+pub use judging::judge;
+pub use judging::longest;
 pub use numbers::answer_length;
 pub use numbers::answer_number;
 pub use numbers::order_number;
 pub use numbers::refused;
-use programs::PROGRAM;
 
 pub struct Settings {
     pub channel: u8,
@@ -31,7 +27,8 @@ pub struct Settings {
 pub enum Check {
     // The most bytes of a message.
     TooLong(u16),
-    Ours,
+    // The device byte of the header.
+    Ours(u8),
     OpcodeAndType,
     // The whole length for this opcode and type.
     Length(u16),
@@ -70,24 +67,4 @@ pub enum Answer {
     Applied,
     Cut,
     Refused(Refusal),
-}
-
-// What a body asks for.
-pub fn judge(body: &[u8], settings: Settings) -> Order
-    ensures { λ r. ⌜ r ≡ judgeOf programSize settings (now (body .entry)) ⌝ }
-{
-    judging::judged(body, settings, PROGRAM)
-}
-
-// Does what a player's body asks for.
-pub fn carry_out(
-    body: &[u8],
-    settings: Settings,
-    player: u32,
-    memory: &mut [u8],
-    reply: &mut [u8],
-) -> Answer
-    ensures { λ r. ⌜ left r (heldOf (now (memory .exit))) (now (reply .exit)) ≡ carryOf programSize settings player (now (body .entry)) (heldOf (now (memory .entry))) (now (reply .entry)) ⌝ }
-{
-    carrying::carried(body, settings, player, PROGRAM, memory, reply)
 }

@@ -46,7 +46,7 @@ pub(crate) fn check_number(check: Check) -> u8
 {
     match check {
         Check::TooLong(_) => 10,
-        Check::Ours => 11,
+        Check::Ours(_) => 11,
         Check::OpcodeAndType => 12,
         Check::Length(_) => 13,
         Check::Program(_) => 14,

@@ -7,13 +7,18 @@ use Rattle.sysex.proofs.answering.begin.Statement.{statement}
 use Rattle.sysex.proofs.answering.begin.Tie as tie
 
 returns : tie.Need-returns
-returns c = let a = c .before .before .before .before .before .before .before .before .before .before .before .before .before .before .before .before .before .before .before .before .before .args in (omega arith, begun (a .typed) (now (a .pp)) (now (a .reply)) _ _ _ _ (c .before .before .before .before .before .before .before .before .before .before .before .before .before .before .before .before .write .ensures) (c .before .before .before .before .before .before .before .before .before .before .before .write2 .ensures) (c .before .before .before .before .before .before .before .write3 .ensures) (c .before .before .write4 .ensures))
+returns c =
+    let first = c .before .before .before .before .before .before .before .before .before .before .before .before .before .before .before .before in
+    let a = first .before .before .before .before .before .before .args in
+    let header = rw (first .before .before .before .header .ensures) at (first .write .ensures) in
+    (omega arith, begun (a .kind) (a .typed) (now (a .pp)) (now (a .reply)) _ _ _ _ header (c .before .before .before .before .before .before .before .before .before .before .before .write2 .ensures) (c .before .before .before .before .before .before .before .write3 .ensures) (c .before .before .write4 .ensures))
 
 pub begin-spec : {M : Type 1} → statement M
 begin-spec =
     tie.close
     (tie.spec
-    (λ c. search needs)
+    (λ c κs. search needs)
+    (λ c. rw (c .before .header .ensures))
     (λ c κs. search needs)
     (λ c. search needs)
     (λ c κs. search needs)

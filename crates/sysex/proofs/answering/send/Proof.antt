@@ -15,8 +15,8 @@ returns c =
     let b = c .before .before .before .before .before .before .before .before .before .before .before .begin in
     let s = c .before .before .before .before .before .before .before .split-into in
     let halves = split-leaves (now (a .part)) _ _ _ (s .ensures) (simp (length-take, length-drop) (omega arith)) in (
-      omega (arith, dump-length (a .typed) (now (a .pp)) (now (a .part))),
-      dumped (a .typed) (now (a .pp)) (now (a .part)) (b .result) _ (now (a .reply)) _ _ _ (b .ensures .0) (b .ensures .1) halves refl (c .before .before .write .ensures),
+      omega (arith, dump-length (a .kind) (a .typed) (now (a .pp)) (now (a .part))),
+      dumped (a .kind) (a .typed) (now (a .pp)) (now (a .part)) (b .result) _ (now (a .reply)) _ _ _ (b .ensures .0) (b .ensures .1) halves refl (c .before .before .write .ensures),
     )
 
 pub send-spec : {M : Type 1} → statement M

@@ -11,17 +11,17 @@ use borrow.Author.Needs.{needs}
 use Rattle.sysex.proofs.carrying.answer.Statement.{statement}
 use Rattle.sysex.proofs.carrying.answer.Tie as tie
 
-cast-t15 : tie.Need-cast-t15
-cast-t15 c =
+cast-t16 : tie.Need-cast-t16
+cast-t16 c =
     let a = c .before .before .before .before .before .before .before .before .args in
     let part = take (a .place + a .count - a .place) (drop (a .place) (now (a .memory))) in
-    omega (arith, dump-length (a .typed) (now (a .pp)) part, length-take (a .place + a .count - a .place) (drop (a .place) (now (a .memory))))
+    omega (arith, dump-length (a .kind) (a .typed) (now (a .pp)) part, length-take (a .place + a .count - a .place) (drop (a .place) (now (a .memory))))
 
 returns : tie.Need-returns
 returns c =
     let a = c .before .before .before .before .before .before .before .before .args in
     let s = c .before .before .send in
-    answered-by (a .typed) (a .place) (a .count) _ (now (a .pp)) (now (a .memory)) (now (a .reply)) _ _ (s .ensures .0) (s .ensures .1)
+    answered-by (a .kind) (a .typed) (a .place) (a .count) _ (now (a .pp)) (now (a .memory)) (now (a .reply)) _ _ (s .ensures .0) (s .ensures .1)
     (ap (λ (k : ℕ). take k (drop (a .place) (now (a .memory)))) (add-sub-cancel-left (a .place) (a .count)))
 
 pub answer-spec : {M : Type 1} → statement M
@@ -33,6 +33,6 @@ answer-spec =
     (λ c. search needs)
     (λ c. search needs)
     (λ c κs. search needs)
-    cast-t15
+    cast-t16
     (λ c. search needs)
     returns)

@@ -1,0 +1,45 @@
+-- The numbers of documents 01 and 02 that derive from the kind, as one table: what is derived is what stands there (`as-the-table-says`).
+use Prim.Native.Nat.{ℕ, _+_, _-_}
+use mathlib.Core.List.{List, [], _∷_}
+use Rattle.kinds.specs.declared.Kind.{Kind}
+use Rattle.kinds.specs.declared.Kind.the-variants.{Pod, BassPod}
+use Rattle.kinds.specs.Kinds.{sizeOf, namePlace}
+use Rattle.programs.specs.Memory.{memorySize}
+use Rattle.sysex.specs.Forms.{longest, wholeLengths}
+
+pub record Lengths : Type 0 where
+  pub kind : Kind
+  -- the bytes of a program; its name's first and last
+  pub size : ℕ
+  pub name-first : ℕ
+  pub name-last : ℕ
+  -- whole lengths: requests of a program, the edit buffer, all programs; dumps of them
+  pub whole : List ℕ
+  -- the longest message, and the shortest receive or reply buffer; the most bytes that are stored
+  pub longest : ℕ
+  pub stored : ℕ
+  pub memory : ℕ
+
+abbrev pub line : Kind → ℕ → ℕ → ℕ → List ℕ → ℕ → ℕ → ℕ → Lengths
+line kind size name-first name-last whole longest stored memory = record {
+  kind = kind;
+  size = size;
+  name-first = name-first;
+  name-last = name-last;
+  whole = whole;
+  longest = longest;
+  stored = stored;
+  memory = memory;
+}
+
+-- what the definitions make of a kind
+abbrev pub derived : Kind → Lengths
+derived kind =
+    line kind (sizeOf kind) (namePlace kind) (namePlace kind + 16 - 1) (wholeLengths kind) (longest kind) (longest kind - 1) (memorySize kind)
+
+-- and what the documents say
+abbrev pub lengths : List Lengths
+lengths =
+    line Pod 72 55 70 (9 ∷ 8 ∷ 8 ∷ 154 ∷ 153 ∷ 5193 ∷ []) 5193 5192 2664 ∷
+    line BassPod 80 64 79 (9 ∷ 8 ∷ 8 ∷ 170 ∷ 169 ∷ 5769 ∷ []) 5769 5768 2960 ∷
+    []
