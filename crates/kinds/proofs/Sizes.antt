@@ -6,10 +6,10 @@ use native.Mathlib.Omega.{arith}
 use lib.ListN.{getD}
 use Rattle.kinds.specs.declared.Kind.{Kind}
 use Rattle.kinds.specs.declared.Kind.the-variants.{Pod, BassPod}
-use Rattle.kinds.specs.Kinds.{sizeOf, deviceOf, identityOf}
+use Rattle.kinds.specs.Kinds.{sizeOf, largest, deviceOf, identityOf}
 
--- a program has a byte, and no more than a byte counts
-pub size-bounds : (kind : Kind) → (1 ≤ sizeOf kind) × (sizeOf kind ≤ 255)
+-- a program has a byte, and no more than the largest
+pub size-bounds : (kind : Kind) → (1 ≤ sizeOf kind) × (sizeOf kind ≤ largest)
 unfolding sizeOf
 size-bounds Pod = (omega arith, omega arith)
 size-bounds BassPod = (omega arith, omega arith)

@@ -18,6 +18,10 @@ unfoldable pub sizeOf : Kind → ℕ
 sizeOf Pod = 72
 sizeOf BassPod = 80
 
+-- no program of any kind is larger
+abbrev pub largest : ℕ
+largest = 80
+
 -- "F0 00 01 0C 01"; "device byte 02"
 unfoldable pub deviceOf : Kind → ℕ
 deviceOf Pod = 0x01

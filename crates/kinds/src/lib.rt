@@ -7,6 +7,9 @@ pub enum Kind {
     BassPod,
 }
 
+// The bytes of the largest program of any kind: a buffer that serves each of them is as long as this asks.
+pub const LARGEST: usize = 80;
+
 // Whether a number is that of a kind.
 pub fn is_kind(number: u32) -> bool
     ensures { λ r. ⌜ r ≡ isKind number ⌝ }

@@ -5,7 +5,9 @@ use mathlib.Core.List.{List, [], _∷_}
 use lib.Dec.{eqb, leb}
 use lib.ListN.{length}
 use Rattle.ground.specs.Tests.{Test, test}
-use Rattle.programs.specs.Memory.{programSize, memorySize}
+use Rattle.kinds.specs.declared.Kind.{Kind}
+use Rattle.kinds.specs.Kinds.{isKind, kindOf}
+use Rattle.programs.specs.Memory.{memorySize}
 use Rattle.programs.specs.Held.{Held}
 use Rattle.framing.specs.declared.Receiver.{Receiver}
 use Rattle.framing.specs.Receiver.{soundOf}
@@ -23,36 +25,46 @@ use Rattle.podbox.specs.Settings.{isValid}
 use Rattle.podbox.specs.Messages.{messageDoes}
 use Rattle.podbox.specs.Whole.{handedDoes}
 
--- "At most 5,192 are stored, so 5,193 with F7 is the longest message."
-abbrev pub limit : ℕ
-limit = longest programSize - 1
+-- "At most 5,192 are stored, so 5,193 with F7 is the longest message": the kind's own
+abbrev pub limit : Kind → ℕ
+limit kind = longest kind - 1
+
+-- 32 "a kind that is neither gives 32, just before 30"
+abbrev pub kindTest : ℕ → Test ℕ
+kindTest number = test 32 (isKind number)
 
 -- 32 "a setting out of its range"
 abbrev pub settingsTest : Settings → Test ℕ
 settingsTest settings = test 32 (isValid settings)
 
 -- 32 "receiver not sound, or a setting out of its range"
-abbrev pub readyTests : Settings → Receiver → List (Test ℕ)
-readyTests settings receiver = test 32 (soundOf limit receiver) ∷ settingsTest settings ∷ []
+abbrev pub readyTests : Kind → Settings → Receiver → List (Test ℕ)
+readyTests kind settings receiver = test 32 (soundOf (limit kind) receiver) ∷ settingsTest settings ∷ []
 
 -- "A call tests 30, 31, 32 in that order": 31 "socket not 0 or 1"
-abbrev pub takeTests : Settings → ℕ → Lent Held → List (Test ℕ)
-takeTests settings socket entry =
-    heldTest programSize (entry .held) ∷ bufferTest programSize (entry .receive) ∷ bufferTest programSize (entry .reply)
-    ∷ test 31 (leb socket 1) ∷ readyTests settings (entry .receiver)
+abbrev pub lentTests : Kind → Settings → ℕ → Lent Held → List (Test ℕ)
+lentTests kind settings socket entry =
+    heldTest kind (entry .held) ∷ bufferTest kind (entry .receive) ∷ bufferTest kind (entry .reply)
+    ∷ test 31 (leb socket 1) ∷ readyTests kind settings (entry .receiver)
+
+abbrev pub takeTests : ℕ → Settings → ℕ → Lent Held → List (Test ℕ)
+takeTests number settings socket entry = kindTest number ∷ lentTests (kindOf number) settings socket entry
 
 -- a whole message "has no socket and no receiver: 30 for the memory or the reply buffer, 32 for a setting"
-abbrev pub wholeTests : Settings → Held → List ℕ → List (Test ℕ)
-wholeTests settings held reply = heldTest programSize held ∷ bufferTest programSize reply ∷ settingsTest settings ∷ []
+abbrev pub handedTests : Kind → Settings → Held → List ℕ → List (Test ℕ)
+handedTests kind settings held reply = heldTest kind held ∷ bufferTest kind reply ∷ settingsTest settings ∷ []
+
+abbrev pub wholeTests : ℕ → Settings → Held → List ℕ → List (Test ℕ)
+wholeTests number settings held reply = kindTest number ∷ handedTests (kindOf number) settings held reply
 
 -- the panel's messages are those of socket 0's player
 abbrev pub panel : ℕ
 panel = 0
 
 -- what a finished message does, from a socket and from the panel
-abbrev pub finishDoes : Settings → Held → Finish (List ℕ) → Outcome
-finishDoes settings held (FromSocket s m) = messageDoes settings (socketNumber s) held m
-finishDoes settings held (FromDirect message) = handedDoes settings panel message held
+abbrev pub finishDoes : Kind → Settings → Held → Finish (List ℕ) → Outcome
+finishDoes kind settings held (FromSocket s m) = messageDoes kind settings (socketNumber s) held m
+finishDoes kind settings held (FromDirect message) = handedDoes kind settings panel message held
 
 -- 0 "byte taken, nothing finished", 4 "SysEx cut", and a call that is turned away
 abbrev pub plainAnswer : ℕ → Answer
@@ -63,11 +75,11 @@ abbrev pub only : List (Said Answer) → Said Answer
 only [] = said Taken []
 only (a ∷ rest) = a
 
--- the rules that the laws of two sockets are about
-abbrev pub boxRules : Settings → Rules
-boxRules settings = record {
+-- the rules that the laws of two sockets are about: of a box of some kind, whose calls are put to these tests
+abbrev pub rulesWith : (ℕ → Lent Held → List (Test ℕ)) → (Held → List ℕ → List (Test ℕ)) → Kind → Settings → Rules
+rulesWith tests testsDirect kind settings = record {
   Held = Held;
-  Good = λ held. memorySize programSize ≤ length (held .memory);
+  Good = λ held. memorySize kind ≤ length (held .memory);
   Given = List ℕ;
   Delivered = List ℕ;
   Code = Answer;
@@ -75,21 +87,25 @@ boxRules settings = record {
   count = answerLength;
   extent = λ message answer. answerLength answer;
   plain = plainAnswer;
-  limit = limit;
-  tests = takeTests settings;
-  testsDirect = λ message held reply. wholeTests settings held reply;
+  limit = limit kind;
+  tests = tests;
+  testsDirect = λ message. testsDirect;
   hands = λ message. message ∷ [];
-  carry = finishDoes settings;
+  carry = finishDoes kind settings;
   report = λ message saids. only saids;
 }
+
+-- of a box whose calls bring the number of its kind
+abbrev pub boxRules : ℕ → Settings → Rules
+boxRules number settings = rulesWith (takeTests number settings) (wholeTests number settings) (kindOf number) settings
 
 abbrev pub Took : Type 0
 Took = any.Took Held Answer
 
 -- one byte on one socket: it promises what the laws of two sockets ask of a byte call
-abbrev pub takeOf : Settings → ℕ → Receiver → ℕ → Held → List ℕ → List ℕ → Took
-takeOf settings socket receiver byte held receive reply = byteOf (boxRules settings) socket byte (lent receiver held receive reply)
+abbrev pub takeOf : ℕ → Settings → ℕ → Receiver → ℕ → Held → List ℕ → List ℕ → Took
+takeOf number settings socket receiver byte held receive reply = byteOf (boxRules number settings) socket byte (lent receiver held receive reply)
 
 -- a whole message
-abbrev pub wholeOf : Settings → List ℕ → Held → List ℕ → Left
-wholeOf settings message held reply = directOf (boxRules settings) message held reply
+abbrev pub wholeOf : ℕ → Settings → List ℕ → Held → List ℕ → Left
+wholeOf number settings message held reply = directOf (boxRules number settings) message held reply

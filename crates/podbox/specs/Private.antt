@@ -3,37 +3,42 @@ use Prim.Native.Nat.{ℕ, _≤_, _<_}
 use mathlib.Core.List.{List}
 use lib.ListN.{length}
 use Rattle.ground.specs.Tests.{tested}
-use Rattle.programs.specs.Memory.{programSize, memorySize}
+use Rattle.kinds.specs.declared.Kind.{Kind}
+use Rattle.programs.specs.Memory.{memorySize}
 use Rattle.programs.specs.Held.{Held}
 use Rattle.framing.specs.declared.Event.{Event}
 use Rattle.framing.specs.declared.Event.the-variants as event
 use Rattle.framing.specs.Bytes.{stepOf}
-use Rattle.sockets.specs.Box.{Lent, took}
+use Rattle.sockets.specs.Box.{Rules, Lent, took}
 use Rattle.sockets.specs.Promise.{socketOf, stepDoes}
 use Rattle.sysex.specs.declared.Settings.{Settings}
 use Rattle.sysex.specs.Forms.{longest}
-use Rattle.podbox.specs.Box.{Took, limit, readyTests, plainAnswer, boxRules}
+use Rattle.podbox.specs.Box.{Took, limit, readyTests, lentTests, handedTests, plainAnswer, rulesWith}
 
 -- as much is lent as a call asks
-abbrev pub HoldsMemory : List ℕ → Type 0
-HoldsMemory memory = memorySize programSize ≤ length memory
+abbrev pub HoldsMemory : Kind → List ℕ → Type 0
+HoldsMemory kind memory = memorySize kind ≤ length memory
 
-abbrev pub HasRoom : List ℕ → Type 0
-HasRoom buffer = longest programSize ≤ length buffer
+abbrev pub HasRoom : Kind → List ℕ → Type 0
+HasRoom kind buffer = longest kind ≤ length buffer
 
 -- a place that a byte goes to, and a count of bytes that stand, are in the receive buffer
-abbrev pub Within : Event → Type 0
-Within event.Nothing = Unit {0}
-Within (event.Collect place) = place < limit
-Within event.Cut = Unit {0}
-Within event.CutAndOpen = Unit {0}
-Within event.TooLong = Unit {0}
-Within (event.SysEx count) = count ≤ limit
-Within (event.Channel status first second) = Unit {0}
+abbrev pub Within : Kind → Event → Type 0
+Within kind event.Nothing = Unit {0}
+Within kind (event.Collect place) = place < limit kind
+Within kind event.Cut = Unit {0}
+Within kind event.CutAndOpen = Unit {0}
+Within kind event.TooLong = Unit {0}
+Within kind (event.SysEx count) = count ≤ limit kind
+Within kind (event.Channel status first second) = Unit {0}
+
+-- the rules behind the test of the kind
+abbrev pub kindRules : Kind → Settings → Rules
+kindRules kind settings = rulesWith (lentTests kind settings) (handedTests kind settings) kind settings
 
 -- the last tests of a byte call, and the byte
-unfoldable pub readyDoes : Settings → ℕ → ℕ → Lent Held → Took
-readyDoes settings player byte entry =
-    tested (readyTests settings (entry .receiver))
+unfoldable pub readyDoes : Kind → Settings → ℕ → ℕ → Lent Held → Took
+readyDoes kind settings player byte entry =
+    tested (readyTests kind settings (entry .receiver))
     (λ number. took (entry .receiver) (plainAnswer number) (entry .held) (entry .receive) (entry .reply))
-    (stepDoes (boxRules settings) (socketOf player) byte entry (stepOf limit (entry .receiver) byte))
+    (stepDoes (kindRules kind settings) (socketOf player) byte entry (stepOf (limit kind) (entry .receiver) byte))

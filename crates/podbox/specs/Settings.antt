@@ -2,7 +2,8 @@
 use mathlib.Core.Bool.{Bool, _&&_}
 use lib.Dec.{leb}
 use lib.ListN.{replicate}
-use Rattle.programs.specs.Memory.{programSize, memorySize}
+use Rattle.kinds.specs.declared.Kind.{Kind}
+use Rattle.programs.specs.Memory.{memorySize}
 use Rattle.programs.specs.Held.{Held, heldOf}
 use Rattle.sysex.specs.declared.Settings.{Settings}
 
@@ -16,5 +17,5 @@ isValid s =
 unfoldable pub freshSettings : Settings
 freshSettings = record { channel = 0; omni = 0; revision0 = 0x30; revision1 = 0x31; revision2 = 0x30; revision3 = 0x30 }
 
-unfoldable pub freshHeld : Held
-freshHeld = heldOf (replicate (memorySize programSize) 0)
+unfoldable pub freshHeld : Kind → Held
+freshHeld kind = heldOf (replicate (memorySize kind) 0)

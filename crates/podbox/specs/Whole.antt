@@ -6,7 +6,8 @@ use lib.Dec.{eqb, leb}
 use lib.ListN.{length, getD, take, drop}
 use Rattle.ground.specs.Lists.{allAtMost}
 use Rattle.ground.specs.Tests.{Test, test}
-use Rattle.programs.specs.Memory.{programSize}
+use Rattle.kinds.specs.declared.Kind.{Kind}
+use Rattle.kinds.specs.Kinds.{deviceOf}
 use Rattle.programs.specs.Held.{Held}
 use Rattle.sysex.specs.declared.Settings.{Settings}
 use Rattle.sysex.specs.declared.Check.{Check}
@@ -27,21 +28,21 @@ isFramed message =
 abbrev pub bodyOf : List ℕ → List ℕ
 bodyOf message = take (length message - 1) message
 
--- The checks of a message, in their order: "10 if over 5,193 bytes, then 11 ..; then as above". 11 is one check, for the frame
+-- The checks of a message, in their order: "10 if over 5,193 bytes", or the kind's own longest, "then 11 ..; then as above". 11 is one check, for the frame
 -- and for the identity form or the header.
-abbrev pub messageTests : Settings → List ℕ → List (Test Check)
-messageTests settings message =
-    test (TooLong (longest programSize)) (leb (length message) (longest programSize))
-    ∷ test Ours (isFramed message && hasForm (bodyOf message))
-    ∷ furtherTests programSize settings (bodyOf message)
+abbrev pub messageTests : Kind → Settings → List ℕ → List (Test Check)
+messageTests kind settings message =
+    test (TooLong (longest kind)) (leb (length message) (longest kind))
+    ∷ test (Ours (deviceOf kind)) (isFramed message && hasForm kind (bodyOf message))
+    ∷ furtherTests kind settings (bodyOf message)
 
 -- what a message asks for, or the first check that fails; and what it does
-unfoldable pub messageOrder : Settings → List ℕ → Order
-messageOrder settings message = judgedBy (messageTests settings message) (bodyOrder (bodyOf message))
+unfoldable pub messageOrder : Kind → Settings → List ℕ → Order
+messageOrder kind settings message = judgedBy (messageTests kind settings message) (bodyOrder (bodyOf message))
 
-abbrev pub handedDoes : Settings → ℕ → List ℕ → Held → Outcome
-handedDoes settings player message held = orderDoes programSize settings player (messageOrder settings message) (bodyOf message) held
+abbrev pub handedDoes : Kind → Settings → ℕ → List ℕ → Held → Outcome
+handedDoes kind settings player message held = orderDoes kind settings player (messageOrder kind settings message) (bodyOf message) held
 
 -- "Tell the customer why": what becomes of a message that a fresh box is handed
-abbrev pub reasonOf : List ℕ → Order
-reasonOf message = messageOrder freshSettings message
+abbrev pub reasonOf : Kind → List ℕ → Order
+reasonOf kind message = messageOrder kind freshSettings message

@@ -1,29 +1,37 @@
-// A finished channel message: 20, 21, then a controller into the edit buffer of its sender.
+// A finished channel message: 20, 21, then a controller, or a program, into the edit buffer of its sender.
 ghost use mathlib.Core.Path.{_≡_};
 ghost use mathlib.Core.List.{[]};
 ghost use Rattle.ground.specs.Calls.{outcome};
 ghost use Rattle.programs.specs.Held.{heldOf};
-ghost use Rattle.podbox.specs.Messages.{isHeard, isController, changeAnswer, controllerDoes, channelDoes};
+ghost use Rattle.podbox.specs.Messages.{isHeard, isController, isProgramChange, changeAnswer, controllerDoes, programChangeDoes, channelDoes};
+ghost use Prim.Native.Nat.{_≤_, _+_};
+ghost use lib.ListN.{length};
+ghost use Rattle.programs.specs.Memory.{programCount, partOf, putPart};
 ghost use Rattle.podbox.specs.Private.{HoldsMemory};
 use controls::Change;
-use programs::PROGRAM;
+use kinds::Kind;
+use programs::PROGRAMS;
 use sysex::Answer;
 use sysex::Settings;
 
 pub(crate) fn channel(
-    settings: Settings,
-    player: u32,
     status: u8,
     first: u8,
     second: u8,
+    player: u32,
+    kind: Kind,
+    settings: Settings,
     memory: &mut [u8],
 ) -> Answer
-    requires { ⌜ HoldsMemory (now memory) ⌝ }
-    ensures { λ r. ⌜ outcome r (heldOf (now (memory .exit))) [] ≡ channelDoes settings player status first second (heldOf (now (memory .entry))) ⌝ }
+    requires { ⌜ HoldsMemory kind (now memory) ⌝ }
+    ensures { λ r. ⌜ outcome r (heldOf (now (memory .exit))) [] ≡ channelDoes kind settings player status first second (heldOf (now (memory .entry))) ⌝ }
 {
     if is_heard(settings, status) {
         if is_controller(status) {
-            return controller(player, first, second, memory);
+            return controller(first, second, player, kind, memory);
+        }
+        if is_program_change(status, first, kind) {
+            return change_program(first, player, kind, memory);
         }
         return sysex::refused(21);
     }
@@ -48,13 +56,30 @@ fn is_controller(status: u8) -> bool
     upper == 0xB
 }
 
-fn controller(player: u32, number: u8, value: u8, memory: &mut [u8]) -> Answer
-    requires { ⌜ HoldsMemory (now memory) ⌝ }
-    ensures { λ r. ⌜ outcome r (heldOf (now (memory .exit))) [] ≡ controllerDoes player number value (heldOf (now (memory .entry))) ⌝ }
+// A program change that the kind takes: of 1 to 36.
+fn is_program_change(status: u8, number: u8, kind: Kind) -> bool
+    ensures { λ r. ⌜ r ≡ isProgramChange kind status number ⌝ }
 {
-    let place = programs::edit_place(PROGRAM as u8, player);
-    let end = place + PROGRAM;
-    let change = controls::apply(number as u32, value as u32, &mut memory[place..end]);
+    if kinds::takes_program_change(kind) {
+        let upper = status / 16;
+        if upper != 0xC {
+            return false;
+        }
+        if number < 1 {
+            return false;
+        }
+        return number <= PROGRAMS as u8;
+    }
+    false
+}
+
+fn controller(number: u8, value: u8, player: u32, kind: Kind, memory: &mut [u8]) -> Answer
+    requires { ⌜ HoldsMemory kind (now memory) ⌝ }
+    ensures { λ r. ⌜ outcome r (heldOf (now (memory .exit))) [] ≡ controllerDoes kind player number value (heldOf (now (memory .entry))) ⌝ }
+{
+    let place = programs::edit_place(kind, player);
+    let end = place + kinds::size(kind) as usize;
+    let change = controls::apply(number as u32, value as u32, kind, &mut memory[place..end]);
     change_answer(change)
 }
 
@@ -64,5 +89,29 @@ fn change_answer(change: Change) -> Answer
     match change {
         Change::Applied => Answer::Applied,
         Change::Refused(number) => sysex::refused(number),
+    }
+}
+
+// Programs are counted from 1 here.
+fn change_program(number: u8, player: u32, kind: Kind, memory: &mut [u8]) -> Answer
+    requires { ⌜ (1 ≤ number) × (number ≤ programCount) ⌝ }
+    requires { ⌜ HoldsMemory kind (now memory) ⌝ }
+    ensures { λ r. ⌜ outcome r (heldOf (now (memory .exit))) [] ≡ programChangeDoes kind player number (heldOf (now (memory .entry))) ⌝ }
+{
+    let size = kinds::size(kind) as usize;
+    let edit = programs::edit_place(kind, player);
+    copy(memory, (number as usize - 1) * size, edit, size);
+    Answer::Stored
+}
+
+// Bytes of memory to a place behind them.
+fn copy(memory: &mut [u8], from: usize, to: usize, count: usize)
+    requires { ⌜ (from + count ≤ to) × (to + count ≤ length (now memory)) ⌝ }
+    ensures { λ _. ⌜ now (memory .exit) ≡ putPart to count (partOf from count (now (memory .entry))) (now (memory .entry)) ⌝ }
+{
+    let mut i = 0;
+    while i < count {
+        memory[to + i] = memory[from + i];
+        i += 1;
     }
 }

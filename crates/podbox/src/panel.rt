@@ -4,27 +4,46 @@ ghost use Rattle.ground.specs.Calls.{left, leaves};
 ghost use Rattle.programs.specs.Held.{heldOf};
 ghost use Rattle.podbox.specs.Whole.{isFramed, handedDoes};
 ghost use Rattle.podbox.specs.Box.{wholeOf};
-ghost use Rattle.podbox.specs.Private.{HoldsMemory, HasRoom};
+ghost use Rattle.podbox.specs.Private.{HoldsMemory, HasRoom, kindRules};
+ghost use Rattle.sockets.specs.Promise.{directOf};
 use crate::settings;
+use kinds::Kind;
 use sysex::Answer;
 use sysex::Settings;
 
 pub fn whole_message(
     message: &[u8],
+    kind: u32,
     settings: Settings,
     memory: &mut [u8],
     reply: &mut [u8],
 ) -> Answer
-    ensures { λ r. ⌜ left r (heldOf (now (memory .exit))) (now (reply .exit)) ≡ wholeOf settings (now (message .entry)) (heldOf (now (memory .entry))) (now (reply .entry)) ⌝ }
+    ensures { λ r. ⌜ left r (heldOf (now (memory .exit))) (now (reply .exit)) ≡ wholeOf kind settings (now (message .entry)) (heldOf (now (memory .entry))) (now (reply .entry)) ⌝ }
 {
-    if memory.len() < settings::MEMORY {
+    if kinds::is_kind(kind) {
+        return handed(message, kinds::kind_of(kind), settings, memory, reply);
+    }
+    sysex::refused(32)
+}
+
+// 30 and 32, then the message.
+fn handed(
+    message: &[u8],
+    kind: Kind,
+    settings: Settings,
+    memory: &mut [u8],
+    reply: &mut [u8],
+) -> Answer
+    ensures { λ r. ⌜ left r (heldOf (now (memory .exit))) (now (reply .exit)) ≡ directOf (kindRules kind settings) (now (message .entry)) (heldOf (now (memory .entry))) (now (reply .entry)) ⌝ }
+{
+    if memory.len() < programs::memory_size(kind) {
         return sysex::refused(30);
     }
-    if reply.len() < settings::LONGEST {
+    if reply.len() < sysex::longest(kind) {
         return sysex::refused(30);
     }
     if settings::are_valid(settings) {
-        return framed(message, settings, settings::PANEL, memory, reply);
+        return framed(message, settings::PANEL, kind, settings, memory, reply);
     }
     sysex::refused(32)
 }
@@ -32,20 +51,21 @@ pub fn whole_message(
 // 10 and 11, then what its body asks for.
 fn framed(
     message: &[u8],
-    settings: Settings,
     player: u32,
+    kind: Kind,
+    settings: Settings,
     memory: &mut [u8],
     reply: &mut [u8],
 ) -> Answer
-    requires { ⌜ HoldsMemory (now memory) × HasRoom (now reply) ⌝ }
-    ensures { λ r. ⌜ left r (heldOf (now (memory .exit))) (now (reply .exit)) ≡ leaves (handedDoes settings player (now (message .entry)) (heldOf (now (memory .entry)))) (now (reply .entry)) ⌝ }
+    requires { ⌜ HoldsMemory kind (now memory) × HasRoom kind (now reply) ⌝ }
+    ensures { λ r. ⌜ left r (heldOf (now (memory .exit))) (now (reply .exit)) ≡ leaves (handedDoes kind settings player (now (message .entry)) (heldOf (now (memory .entry)))) (now (reply .entry)) ⌝ }
 {
-    if settings::LONGEST < message.len() {
+    if sysex::longest(kind) < message.len() {
         return sysex::refused(10);
     }
     if is_framed(message) {
         let end = message.len() - 1;
-        return sysex::carry_out(&message[..end], settings, player, memory, reply);
+        return sysex::carry_out(&message[..end], player, kind, settings, memory, reply);
     }
     sysex::refused(11)
 }

@@ -1,26 +1,24 @@
-// The lengths of this box, the settings of a fresh one, and whether settings are in range.
+// The lengths that serve a box of any kind, the settings of a fresh one, and whether settings are in range.
 ghost use mathlib.Core.Path.{_≡_};
 ghost use Rattle.podbox.specs.Settings.{isValid};
-use programs::PROGRAM;
+ghost use Rattle.podbox.specs.Box.{limit};
+use kinds::Kind;
+use kinds::LARGEST;
 use programs::PROGRAMS;
 use sysex::Settings;
 
-// 36 programs and the edit buffer.
-pub const MEMORY: usize = (PROGRAMS + 1) * PROGRAM;
+// Memory of the largest programs, and the longest message with them: no kind asks for more.
+pub const MEMORY: usize = (PROGRAMS + 1) * LARGEST;
 
-// The longest message, F0 and F7 with it: an all programs dump.
-pub const LONGEST: usize = 2 * PROGRAMS * PROGRAM + 9;
+pub const LONGEST: usize = 2 * PROGRAMS * LARGEST + 9;
 
 // The player whose messages the panel's are, and whose edit buffer it shows.
 pub const PANEL: u32 = 0;
 
-// The shortest that a call may be lent: memory, and a receive or a reply buffer.
+// What a call of any kind may be lent: memory, and a receive or a reply buffer.
 pub type Memory = [u8; MEMORY];
 
 pub type Buffer = [u8; LONGEST];
-
-// The most bytes of a SysEx that are stored: all but its F7.
-pub(crate) const LIMIT: u16 = LONGEST as u16 - 1;
 
 pub const FRESH_SETTINGS: Settings = Settings {
     channel: 0,
@@ -30,6 +28,13 @@ pub const FRESH_SETTINGS: Settings = Settings {
     revision2: 0x30,
     revision3: 0x30,
 };
+
+// The most bytes of a SysEx that are stored: all but its F7.
+pub(crate) fn limit(kind: Kind) -> u16
+    ensures { λ r. ⌜ r ≡ limit kind ⌝ }
+{
+    (sysex::longest(kind) - 1) as u16
+}
 
 pub(crate) fn are_valid(settings: Settings) -> bool
     ensures { λ r. ⌜ r ≡ isValid settings ⌝ }

@@ -3,16 +3,17 @@ ghost use mathlib.Core.Path.{_≡_};
 ghost use Prim.Native.Nat.{_≤_};
 ghost use Rattle.programs.specs.Held.{heldOf};
 ghost use Rattle.sockets.specs.Box.{took, lent};
-ghost use Rattle.sockets.specs.Promise.{socketOf, stepDoes};
+ghost use Rattle.sockets.specs.Promise.{socketOf, stepDoes, byteOf};
 ghost use Rattle.sysex.specs.Numbers.{refused};
-ghost use Rattle.podbox.specs.Box.{boxRules, takeOf};
-ghost use Rattle.podbox.specs.Private.{HoldsMemory, HasRoom, Within, readyDoes};
+ghost use Rattle.podbox.specs.Box.{takeOf};
+ghost use Rattle.podbox.specs.Private.{HoldsMemory, HasRoom, Within, kindRules, readyDoes};
 use crate::Took;
 use crate::channel;
 use crate::settings;
 use framing::Event;
 use framing::Receiver;
 use framing::Stepped;
+use kinds::Kind;
 use sysex::Answer;
 use sysex::Settings;
 
@@ -20,26 +21,66 @@ pub fn take_byte(
     receiver: Receiver,
     socket: u32,
     byte: u8,
+    kind: u32,
     settings: Settings,
     memory: &mut [u8],
     receive: &mut [u8],
     reply: &mut [u8],
 ) -> Took
-    ensures { λ r. ⌜ took (r .receiver) (r .answer) (heldOf (now (memory .exit))) (now (receive .exit)) (now (reply .exit)) ≡ takeOf settings socket receiver byte (heldOf (now (memory .entry))) (now (receive .entry)) (now (reply .entry)) ⌝ }
+    ensures { λ r. ⌜ took (r .receiver) (r .answer) (heldOf (now (memory .exit))) (now (receive .exit)) (now (reply .exit)) ≡ takeOf kind settings socket receiver byte (heldOf (now (memory .entry))) (now (receive .entry)) (now (reply .entry)) ⌝ }
 {
-    if memory.len() < settings::MEMORY {
+    if kinds::is_kind(kind) {
+        let known = kinds::kind_of(kind);
+        return take_lent(
+            receiver,
+            socket,
+            byte,
+            known,
+            settings,
+            memory,
+            receive,
+            reply,
+        );
+    }
+    refused(receiver, 32)
+}
+
+// 30 and 31, then whether it is ready.
+fn take_lent(
+    receiver: Receiver,
+    socket: u32,
+    byte: u8,
+    kind: Kind,
+    settings: Settings,
+    memory: &mut [u8],
+    receive: &mut [u8],
+    reply: &mut [u8],
+) -> Took
+    ensures { λ r. ⌜ took (r .receiver) (r .answer) (heldOf (now (memory .exit))) (now (receive .exit)) (now (reply .exit)) ≡ byteOf (kindRules kind settings) socket byte (lent receiver (heldOf (now (memory .entry))) (now (receive .entry)) (now (reply .entry))) ⌝ }
+{
+    if memory.len() < programs::memory_size(kind) {
         return refused(receiver, 30);
     }
-    if receive.len() < settings::LONGEST {
+    let longest = sysex::longest(kind);
+    if receive.len() < longest {
         return refused(receiver, 30);
     }
-    if reply.len() < settings::LONGEST {
+    if reply.len() < longest {
         return refused(receiver, 30);
     }
     if 1 < socket {
         return refused(receiver, 31);
     }
-    take_ready(receiver, socket, byte, settings, memory, receive, reply)
+    take_ready(
+        receiver,
+        socket,
+        byte,
+        kind,
+        settings,
+        memory,
+        receive,
+        reply,
+    )
 }
 
 fn refused(receiver: Receiver, number: u8) -> Took
@@ -56,19 +97,30 @@ fn take_ready(
     receiver: Receiver,
     player: u32,
     byte: u8,
+    kind: Kind,
     settings: Settings,
     memory: &mut [u8],
     receive: &mut [u8],
     reply: &mut [u8],
 ) -> Took
-    requires { ⌜ HoldsMemory (now memory) × HasRoom (now receive) × HasRoom (now reply) ⌝ }
+    requires { ⌜ HoldsMemory kind (now memory) × HasRoom kind (now receive) × HasRoom kind (now reply) ⌝ }
     requires { ⌜ player ≤ 1 ⌝ }
-    ensures { λ r. ⌜ took (r .receiver) (r .answer) (heldOf (now (memory .exit))) (now (receive .exit)) (now (reply .exit)) ≡ readyDoes settings player byte (lent receiver (heldOf (now (memory .entry))) (now (receive .entry)) (now (reply .entry))) ⌝ }
+    ensures { λ r. ⌜ took (r .receiver) (r .answer) (heldOf (now (memory .exit))) (now (receive .exit)) (now (reply .exit)) ≡ readyDoes kind settings player byte (lent receiver (heldOf (now (memory .entry))) (now (receive .entry)) (now (reply .entry))) ⌝ }
 {
-    if framing::sound(receiver, settings::LIMIT) {
+    let limit = settings::limit(kind);
+    if framing::sound(receiver, limit) {
         if settings::are_valid(settings) {
-            let stepped = framing::step(receiver, byte, settings::LIMIT);
-            return act(stepped, player, byte, settings, memory, receive, reply);
+            let stepped = framing::step(receiver, byte, limit);
+            return act(
+                stepped,
+                player,
+                byte,
+                kind,
+                settings,
+                memory,
+                receive,
+                reply,
+            );
         }
         return refused(receiver, 32);
     }
@@ -80,14 +132,15 @@ fn act(
     stepped: Stepped,
     player: u32,
     byte: u8,
+    kind: Kind,
     settings: Settings,
     memory: &mut [u8],
     receive: &mut [u8],
     reply: &mut [u8],
 ) -> Took
-    requires { ⌜ HoldsMemory (now memory) × HasRoom (now receive) × HasRoom (now reply) ⌝ }
-    requires { ⌜ (player ≤ 1) × Within (stepped .event) ⌝ }
-    ensures { λ r. ⌜ took (r .receiver) (r .answer) (heldOf (now (memory .exit))) (now (receive .exit)) (now (reply .exit)) ≡ stepDoes (boxRules settings) (socketOf player) byte (lent (stepped .receiver) (heldOf (now (memory .entry))) (now (receive .entry)) (now (reply .entry))) stepped ⌝ }
+    requires { ⌜ HoldsMemory kind (now memory) × HasRoom kind (now receive) × HasRoom kind (now reply) ⌝ }
+    requires { ⌜ (player ≤ 1) × Within kind (stepped .event) ⌝ }
+    ensures { λ r. ⌜ took (r .receiver) (r .answer) (heldOf (now (memory .exit))) (now (receive .exit)) (now (reply .exit)) ≡ stepDoes (kindRules kind settings) (socketOf player) byte (lent (stepped .receiver) (heldOf (now (memory .entry))) (now (receive .entry)) (now (reply .entry))) stepped ⌝ }
 {
     let receiver = stepped.receiver;
     let event = stepped.event;
@@ -118,15 +171,16 @@ fn act(
         Event::SysEx(count) => {
             let answer = sysex::carry_out(
                 &receive[..count as usize],
-                settings,
                 player,
+                kind,
+                settings,
                 memory,
                 reply,
             );
             Took { receiver, answer }
         }
         Event::Channel(status, first, second) => {
-            let answer = channel::channel(settings, player, status, first, second, memory);
+            let answer = channel::channel(status, first, second, player, kind, settings, memory);
             Took { receiver, answer }
         }
     }
