@@ -53,8 +53,11 @@ at-kind test t Pod = both (test Pod) (test BassPod) t .0
 at-kind test t BassPod = both (test Pod) (test BassPod) t .1
 
 -- Facts of every row, each by one test that antt computes over the kinds' lists and the row that is in none.
+abbrev kindPasses : (Kind → Row → Bool) → Kind → Bool
+kindPasses test kind = test kind unlisted && allPass (λ _. test kind) (rows kind)
+
 abbrev everyRow : (Kind → Row → Bool) → Bool
-everyRow test = eachKind (λ kind. test kind unlisted && allPass (λ _. test kind) (rows kind))
+everyRow test = eachKind (kindPasses test)
 
 pub row-found : (kind : Kind) (test : ℕ → Row → Bool) → ((key : ℕ) → test key unlisted ≡ true) → allPass test (rows kind) ≡ true
     → (controller : ℕ) → test controller (rowOf kind controller) ≡ true
@@ -63,7 +66,7 @@ row-found kind test o t = found unlisted test o (rows kind) t
 
 pub fact : (test : Kind → Row → Bool) → everyRow test ≡ true → (kind : Kind) (controller : ℕ) → test kind (rowOf kind controller) ≡ true
 fact test t kind =
-    let p = both (test kind unlisted) (allPass (λ _. test kind) (rows kind)) (at-kind (λ kind. test kind unlisted && allPass (λ _. test kind) (rows kind)) t kind) in
+    let p = both (test kind unlisted) (allPass (λ _. test kind) (rows kind)) (at-kind (kindPasses test) t kind) in
     row-found kind (λ _. test kind) (λ _. p .0) (p .1)
 
 abbrev isSane : Kind → Row → Bool
