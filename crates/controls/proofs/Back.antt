@@ -7,6 +7,7 @@ use native.Mathlib.Omega.{arith}
 use lib.Dec.{eqb}
 use borrow.Author.Tests.{eqb-true, eqb-false}
 use Rattle.ground.proofs.Tests.{by}
+use Rattle.kinds.specs.declared.Kind.{Kind}
 use Rattle.controls.specs.declared.Row.{Row}
 use Rattle.controls.specs.Formulas.{m-upper, m-lower, numberFor, mOf, nextFor}
 use Rattle.controls.specs.Table.{rowOf}
@@ -36,14 +37,14 @@ pub data Formed (r : Row) : Type 0 where
       → ((stored : ℕ) → shownOf r stored ≡ sevenBits stored (bits (mOf stored))) → Whole r → Formed r
   of-v : ((v stored : ℕ) → nextFor r v stored ≡ numberFor r v) → ((stored : ℕ) → shownOf r stored ≡ smallest r stored (r .highest + 1) 0) → Formed r
 
-pub formed : (controller : ℕ) → Formed (rowOf controller)
+pub formed : (kind : Kind) (controller : ℕ) → Formed (rowOf kind controller)
 unfolding nextFor shownOf
-formed controller =
-    let r = rowOf controller in
+formed kind controller =
+    let r = rowOf kind controller in
     by (λ (_ : Bool). Formed r) (eqb (r .formula) m-upper) true false
-    (λ t. of-m upper (λ v stored. rw t) (λ stored. rw t) (whole-upper controller t))
+    (λ t. of-m upper (λ v stored. rw t) (λ stored. rw t) (whole-upper kind controller t))
     (λ t. by (λ (_ : Bool). Formed r) (eqb (r .formula) m-lower) true false
-    (λ u. of-m lower (λ v stored. rw (t, u)) (λ stored. rw (t, u)) (whole-lower controller u))
+    (λ u. of-m lower (λ v stored. rw (t, u)) (λ stored. rw (t, u)) (whole-lower kind controller u))
     (λ u. of-v (λ v stored. rw (t, u)) (λ stored. rw (t, u))))
 
 m-small : (stored : ℕ) → mOf stored ≤ 16383
@@ -55,12 +56,12 @@ m-of-six : (stored m : ℕ) → m ≤ 16383 → 6 * m ≡ stored → mOf stored 
 unfolding mOf
 m-of-six stored m h e = omega arith
 
-module _ (controller : ℕ) where
-  pub row-shown : Formed (rowOf controller) → (stored : ℕ) → Shown (rowOf controller) stored (shownOf (rowOf controller) stored)
+module _ (kind : Kind) (controller : ℕ) where
+  pub row-shown : Formed (rowOf kind controller) → (stored : ℕ) → Shown (rowOf kind controller) stored (shownOf (rowOf kind controller) stored)
   row-shown (of-m {bits} {new} law next shows whole) stored =
-      let r = rowOf controller in
+      let r = rowOf kind controller in
       let m = mOf stored in
-      let low = row-sane controller .low in
+      let low = row-sane kind controller .low in
       let within = law .within m (m-small stored) in
       let is-m : (v : ℕ) → v ≤ 127 → Gives r stored v → m ≡ new v m = λ v h g. m-of-six stored (new v m) (law .small v m h (m-small stored)) (sym (next v stored) ∙ g) in
       rw (shows stored) (by (Shown r stored) (eqb stored (6 * m)) _ _
@@ -75,26 +76,26 @@ module _ (controller : ℕ) where
       ))
       (λ t. inr (refl, λ v h g. eqb-false stored (6 * m) t (sym g ∙ (rw (next v stored, ← is-m v (omega arith) g))))))
   row-shown (of-v next shows) stored =
-      let r = rowOf controller in
+      let r = rowOf kind controller in
       rw (shows stored) (searched r stored (λ v. next v stored) (r .highest + 1) 0 (omega arith) (λ u l. absurd (omega arith)))
 
   -- a value gives the number that it stored
-  pub gives-again : Formed (rowOf controller) → (v stored : ℕ) → v ≤ 127 → Gives (rowOf controller) (nextFor (rowOf controller) v stored) v
+  pub gives-again : Formed (rowOf kind controller) → (v stored : ℕ) → v ≤ 127 → Gives (rowOf kind controller) (nextFor (rowOf kind controller) v stored) v
   gives-again (of-m law next shows whole) v stored h =
       let is-m = m-of-six _ _ (law .small v (mOf stored) h (m-small stored)) (sym (next v stored)) in
       next v _ ∙ (rw (is-m, law .again v (mOf stored) h) (sym (next v stored)))
   gives-again (of-v next shows) v stored h = next v _ ∙ sym (next v stored)
 
   -- a stored number has room in its row's bytes
-  pub next-room : Formed (rowOf controller) → (v stored : ℕ) → v ≤ rowOf controller .highest → above (rowOf controller .width) (nextFor (rowOf controller) v stored) ≡ 0
+  pub next-room : Formed (rowOf kind controller) → (v stored : ℕ) → v ≤ rowOf kind controller .highest → above (rowOf kind controller .width) (nextFor (rowOf kind controller) v stored) ≡ 0
   next-room (of-m law next shows whole) v stored h =
-      let low = row-sane controller .low in
+      let low = row-sane kind controller .low in
       let small = law .small v (mOf stored) (omega arith) (m-small stored) in
       rw (next v stored, whole .1) (omega arith)
-  next-room (of-v next shows) v stored h = rw (next v stored) (number-room controller v h)
+  next-room (of-v next shows) v stored h = rw (next v stored) (number-room kind controller v h)
 
   -- what a value gives is at least the row's least number
-  pub least-given : Formed (rowOf controller) → (v stored : ℕ) → Gives (rowOf controller) stored v → rowOf controller .least ≤ stored
+  pub least-given : Formed (rowOf kind controller) → (v stored : ℕ) → Gives (rowOf kind controller) stored v → rowOf kind controller .least ≤ stored
   unfolding numberFor
   least-given (of-m law next shows whole) v stored g = omega (arith, whole .2)
   least-given (of-v next shows) v stored g = let raised = sym (next v stored) ∙ g in omega arith

@@ -10,13 +10,15 @@ use Rattle.ground.proofs.Tests.{both}
 use Rattle.ground.proofs.InOrder.{tested-passed}
 use Rattle.ground.specs.Lists.{column}
 use Rattle.ground.proofs.Computed.{column-at, every-at}
+use Rattle.kinds.specs.declared.Kind.{Kind}
+use Rattle.kinds.specs.declared.Kind.the-variants.{Pod}
 use Rattle.controls.specs.declared.Row.{Row}
 use Rattle.controls.specs.declared.Reading.the-variants.{Value, Refused}
 use Rattle.controls.specs.Formulas.{m-upper, m-lower, v×50, v×256/42, v×25, numberBy, numberFor}
 use Rattle.controls.specs.Table.{rows, rowOf}
 use Rattle.controls.specs.Sheet.{columns, onSheet, sheetRule}
 use Rattle.controls.specs.Scaling.{scaleTests, scaleOf}
-use Rattle.controls.specs.Private.{Sane}
+use Rattle.controls.specs.Private.{SaneForSome}
 use Rattle.controls.proofs.Rows.{fact, row-sane}
 
 -- the rule at a column and a value
@@ -29,40 +31,41 @@ in-column c v h l =
 -- the least number of the rows with a formula: three have one
 abbrev pub leastOf : ℕ → ℕ
 leastOf formula =
-    cond (eqb formula v×50) (rowOf 51 .least)
-    (cond (eqb formula v×256/42) (rowOf 54 .least)
-    (cond (eqb formula v×25) (rowOf 58 .least)
+    cond (eqb formula v×50) (rowOf Pod 51 .least)
+    (cond (eqb formula v×256/42) (rowOf Pod 54 .least)
+    (cond (eqb formula v×25) (rowOf Pod 58 .least)
     0))
 
-least-of : (controller : ℕ) → rowOf controller .least ≡ leastOf (rowOf controller .formula)
+least-of : (kind : Kind) (controller : ℕ) → rowOf kind controller .least ≡ leastOf (rowOf kind controller .formula)
 unfolding rows rowOf
-least-of controller = eqb-true _ _ (fact (λ r. eqb (r .least) (leastOf (r .formula))) refl controller)
+least-of kind controller = eqb-true _ _ (fact (λ _ r. eqb (r .least) (leastOf (r .formula))) refl kind controller)
 
 -- so a row's number goes by its formula
-pub by-least : (r : Row) (v : ℕ) → Sane r → numberFor r v ≡ max (numberBy (r .formula) v) (leastOf (r .formula))
+pub by-least : (r : Row) (v : ℕ) → SaneForSome r → numberFor r v ≡ max (numberBy (r .formula) v) (leastOf (r .formula))
 unfolding numberFor
-by-least r v sane = rw (sane .of-table .1) (rw (least-of (sane .of-table .0)))
+by-least r v sane = let from = sane .1 .of-table in rw (from .1) (rw (least-of (sane .0) (from .0)))
 
-module _ (r : Row) (v number : ℕ) (sane : Sane r) where
+module _ (r : Row) (v number : ℕ) (sane : SaneForSome r) where
   pub at-formula : (formula : ℕ) → r .formula ≡ formula → number ≡ max (numberBy formula v) (leastOf formula) → number ≡ numberFor r v
   at-formula formula is e = e ∙ (rw (by-least r v sane, is))
 
-  pub at-controller : (controller : ℕ) → r .formula ≡ rowOf controller .formula → number ≡ numberFor (rowOf controller) v → number ≡ numberFor r v
-  at-controller controller is e = at-formula (rowOf controller .formula) is (e ∙ by-least (rowOf controller) v (row-sane controller))
+  pub at-controller : (kind : Kind) (controller : ℕ) → r .formula ≡ rowOf kind controller .formula
+      → number ≡ numberFor (rowOf kind controller) v → number ≡ numberFor r v
+  at-controller kind controller is e = at-formula (rowOf kind controller .formula) is (e ∙ by-least (rowOf kind controller) v (kind, row-sane kind controller))
 
--- Controllers with the same formula have the same number for a value.
-pub by-formula : (a b v : ℕ) → rowOf a .formula ≡ rowOf b .formula → numberFor (rowOf b) v ≡ numberFor (rowOf a) v
-by-formula a b v is = at-controller (rowOf a) v _ (row-sane a) b is refl
+-- Controllers with the same formula have the same number for a value, whatever their kinds.
+pub by-formula : (kind other : Kind) (a b v : ℕ) → rowOf kind a .formula ≡ rowOf other b .formula → numberFor (rowOf other b) v ≡ numberFor (rowOf kind a) v
+by-formula kind other a b v is = at-controller (rowOf kind a) v _ (kind, row-sane kind a) other b is refl
 
 -- Scaling refuses no value of a column's controller.
 abbrev scales : Row → Bool
 scales r = not (eqb (r .width) 0) && (not (eqb (r .formula) m-upper) && (not (eqb (r .formula) m-lower) && leb 127 (r .highest)))
 
-pub scaled-in : (c v : ℕ) → c ≤ 5 → v ≤ 127 → scaleOf (getD columns c 0) v ≡ Value (onSheet c v)
+pub scaled-in : (c v : ℕ) → c ≤ 5 → v ≤ 127 → scaleOf Pod (getD columns c 0) v ≡ Value (onSheet c v)
 unfolding scaleOf rows rowOf
 scaled-in c v h l =
-    let r = rowOf (getD columns c 0) in
-    let listed = both (not (eqb (r .width) 0)) _ (every-at (λ k. scales (rowOf (getD columns k 0))) 6 refl c (omega arith)) in
+    let r = rowOf Pod (getD columns c 0) in
+    let listed = both (not (eqb (r .width) 0)) _ (every-at (λ k. scales (rowOf Pod (getD columns k 0))) 6 refl c (omega arith)) in
     let not-upper = both (not (eqb (r .formula) m-upper)) _ (listed .1) in
     let not-lower = both (not (eqb (r .formula) m-lower)) _ (not-upper .1) in
     let highest = leb-true 127 (r .highest) (not-lower .1) in

@@ -9,7 +9,9 @@ use lib.Dec.{eqb, leb, ltb}
 use borrow.Author.Tests.{eqb-true, leb-true, ltb-true, ne-eqb}
 use Rattle.ground.proofs.Tests.{both, either, by}
 use Rattle.ground.proofs.Computed.{every, every-at}
-use Rattle.programs.specs.Memory.{programSize}
+use Rattle.kinds.specs.declared.Kind.{Kind}
+use Rattle.kinds.specs.declared.Kind.the-variants.{Pod, BassPod}
+use Rattle.kinds.specs.Kinds.{sizeOf}
 use Rattle.controls.specs.declared.Row.{Row}
 use Rattle.controls.specs.Formulas.{m-upper, m-lower, numberBy, numberFor}
 use Rattle.controls.specs.Table.{Entry, find, none, unlisted, rows, rowOf}
@@ -18,7 +20,7 @@ use Rattle.controls.specs.Private.{Sane}
 use Rattle.controls.proofs.Bytes.{above}
 
 -- a test that each entry passes
-abbrev allPass : {A : Type 0} → (ℕ → A → Bool) → List (Entry A) → Bool
+abbrev pub allPass : {A : Type 0} → (ℕ → A → Bool) → List (Entry A) → Bool
 allPass test [] = true
 allPass test (e ∷ es) = test (e .key) (e .value) && allPass test es
 
@@ -42,19 +44,33 @@ module _ {A : Type 0} (other : A) where
       let p = not-found key es (Known × (key ≡ e .key → ⊥)) m in
       (p .0 .0, rw (ne-eqb key (e .key) (p .0 .1)) (p .1))
 
--- Facts of every row, each by one test that antt computes over the list and the row that is not in it.
-abbrev everyRow : (Row → Bool) → Bool
-everyRow test = test unlisted && allPass (λ _. test) rows
+-- a test of a kind that each kind passes
+abbrev pub eachKind : (Kind → Bool) → Bool
+eachKind test = test Pod && test BassPod
 
-row-found : (test : ℕ → Row → Bool) → ((key : ℕ) → test key unlisted ≡ true) → allPass test rows ≡ true → (controller : ℕ) → test controller (rowOf controller) ≡ true
+pub at-kind : (test : Kind → Bool) → eachKind test ≡ true → (kind : Kind) → test kind ≡ true
+at-kind test t Pod = both (test Pod) (test BassPod) t .0
+at-kind test t BassPod = both (test Pod) (test BassPod) t .1
+
+-- Facts of every row, each by one test that antt computes over the kinds' lists and the row that is in none.
+abbrev kindPasses : (Kind → Row → Bool) → Kind → Bool
+kindPasses test kind = test kind unlisted && allPass (λ _. test kind) (rows kind)
+
+abbrev everyRow : (Kind → Row → Bool) → Bool
+everyRow test = eachKind (kindPasses test)
+
+pub row-found : (kind : Kind) (test : ℕ → Row → Bool) → ((key : ℕ) → test key unlisted ≡ true) → allPass test (rows kind) ≡ true
+    → (controller : ℕ) → test controller (rowOf kind controller) ≡ true
 unfolding rowOf
-row-found test o t = found unlisted test o rows t
+row-found kind test o t = found unlisted test o (rows kind) t
 
-pub fact : (test : Row → Bool) → everyRow test ≡ true → (controller : ℕ) → test (rowOf controller) ≡ true
-fact test t = let p = both (test unlisted) (allPass (λ _. test) rows) t in row-found (λ _. test) (λ _. p .0) (p .1)
+pub fact : (test : Kind → Row → Bool) → everyRow test ≡ true → (kind : Kind) (controller : ℕ) → test kind (rowOf kind controller) ≡ true
+fact test t kind =
+    let p = both (test kind unlisted) (allPass (λ _. test kind) (rows kind)) (at-kind (kindPasses test) t kind) in
+    row-found kind (λ _. test kind) (λ _. p .0) (p .1)
 
-abbrev isSane : Row → Bool
-isSane r = leb (r .place + r .width) programSize && (leb (r .width) 3 && leb (r .highest) 127)
+abbrev isSane : Kind → Row → Bool
+isSane kind r = leb (r .place + r .width) (sizeOf kind) && (leb (r .width) 3 && leb (r .highest) 127)
 
 -- 30 and 62 take every seven bits, have three bytes, and are not raised
 abbrev whole-m : ℕ → Row → Bool
@@ -67,55 +83,60 @@ Whole r = (127 ≤ r .highest) × (r .width ≡ 3) × (r .least ≡ 0)
 abbrev at-each : (Row → ℕ → Bool) → Row → Bool
 at-each test r = every (λ v. test r (numberFor r v)) (r .highest + 1)
 
-module _ (controller : ℕ) where
-  wholes : (formula : ℕ) → everyRow (whole-m formula) ≡ true → eqb (rowOf controller .formula) formula ≡ true → Whole (rowOf controller)
+module _ (kind : Kind) (controller : ℕ) where
+  wholes : (formula : ℕ) → everyRow (λ _. whole-m formula) ≡ true → eqb (rowOf kind controller .formula) formula ≡ true → Whole (rowOf kind controller)
   wholes formula t e =
-      let r = rowOf controller in
-      let p = both (leb 127 (r .highest)) _ (rw e at (fact (whole-m formula) t controller)) in
+      let r = rowOf kind controller in
+      let p = both (leb 127 (r .highest)) _ (rw e at (fact (λ _. whole-m formula) t kind controller)) in
       let q = both (eqb (r .width) 3) _ (p .1) in
       (leb-true _ _ (p .0), eqb-true _ _ (q .0), eqb-true _ _ (q .1))
 
-  pub whole-upper : eqb (rowOf controller .formula) m-upper ≡ true → Whole (rowOf controller)
+  pub whole-upper : eqb (rowOf kind controller .formula) m-upper ≡ true → Whole (rowOf kind controller)
   unfolding rows
   whole-upper = wholes m-upper refl
 
-  pub whole-lower : eqb (rowOf controller .formula) m-lower ≡ true → Whole (rowOf controller)
+  pub whole-lower : eqb (rowOf kind controller .formula) m-lower ≡ true → Whole (rowOf kind controller)
   unfolding rows
   whole-lower = wholes m-lower refl
 
-  pub row-sane : Sane (rowOf controller)
-  unfolding rows
+  pub row-sane : Sane kind (rowOf kind controller)
+  unfolding rows sizeOf
   row-sane =
-      let r = rowOf controller in
-      let p = both (leb (r .place + r .width) programSize) _ (fact isSane refl controller) in
+      let r = rowOf kind controller in
+      let p = both (leb (r .place + r .width) (sizeOf kind)) _ (fact isSane refl kind controller) in
       let q = both (leb (r .width) 3) _ (p .1) in
       record { inside = leb-true _ _ (p .0); narrow = leb-true _ _ (q .0); low = leb-true _ _ (q .1); of-table = (controller, refl) }
 
   -- what the test says of every row holds of the controller's
-  numbers : (test : Row → ℕ → Bool) → everyRow (at-each test) ≡ true
-      → (v : ℕ) → v ≤ rowOf controller .highest → test (rowOf controller) (numberFor (rowOf controller) v) ≡ true
-  numbers test t v h = let r = rowOf controller in every-at (λ v. test r (numberFor r v)) (r .highest + 1) (fact (at-each test) t controller) v (omega arith)
+  numbers : (test : Row → ℕ → Bool) → everyRow (λ _. at-each test) ≡ true
+      → (v : ℕ) → v ≤ rowOf kind controller .highest → test (rowOf kind controller) (numberFor (rowOf kind controller) v) ≡ true
+  numbers test t v h = let r = rowOf kind controller in every-at (λ v. test r (numberFor r v)) (r .highest + 1) (fact (λ _. at-each test) t kind controller) v (omega arith)
 
   -- a row's numbers have room in its bytes
-  pub number-room : (v : ℕ) → v ≤ rowOf controller .highest → above (rowOf controller .width) (numberFor (rowOf controller) v) ≡ 0
+  pub number-room : (v : ℕ) → v ≤ rowOf kind controller .highest → above (rowOf kind controller .width) (numberFor (rowOf kind controller) v) ≡ 0
   unfolding rows numberBy numberFor
   number-room v h = eqb-true _ _ (numbers (λ r n. eqb (above (r .width) n) 0) refl v h)
 
   -- and in two bytes, as scaling gives them
-  pub number-low : (v : ℕ) → v ≤ rowOf controller .highest → numberFor (rowOf controller) v < 65536
+  pub number-low : (v : ℕ) → v ≤ rowOf kind controller .highest → numberFor (rowOf kind controller) v < 65536
   unfolding rows numberBy numberFor
   number-low v h = ltb-true _ _ (numbers (λ _ n. ltb n 65536) refl v h)
 
   -- a shared byte is not byte 46
-  pub shared-beyond : eqb (rowOf controller .effect) none ≡ false → 46 < rowOf controller .place
+  pub shared-beyond : eqb (rowOf kind controller .effect) none ≡ false → 46 < rowOf kind controller .place
   unfolding rows
-  shared-beyond e = ltb-true _ _ (rw e at (fact (λ r. cond (eqb (r .effect) none) true (ltb 46 (r .place))) refl controller))
+  shared-beyond e = ltb-true _ _ (rw e at (fact (λ _ r. cond (eqb (r .effect) none) true (ltb 46 (r .place))) refl kind controller))
 
-  -- only 19 has byte 46
-  pub beside-46 : (controller ≡ 19 → ⊥) → Outside (rowOf controller .width) (rowOf controller .place) 46
-  unfolding rows
-  beside-46 other =
-      let beside : ℕ → Row → Bool = λ k r. cond (eqb k 19) true (cond (ltb 46 (r .place)) true (leb (r .place + r .width) 46)) in
-      let none-beside : (k : ℕ) → beside k unlisted ≡ true = λ k. by (λ x. x ≡ true) (eqb k 19) true true (λ _. refl) (λ _. refl) in
-      ⊎-elim (λ before. inl (ltb-true _ _ before)) (λ behind. inr (leb-true _ _ behind))
-      (either _ _ (rw (ne-eqb controller 19 other) at (row-found beside none-beside refl controller)))
+-- of a POD's controllers only 19 has byte 46
+pub beside-46 : (controller : ℕ) → (controller ≡ 19 → ⊥) → Outside (rowOf Pod controller .width) (rowOf Pod controller .place) 46
+unfolding rows
+beside-46 controller other =
+    let beside : ℕ → Row → Bool = λ k r. cond (eqb k 19) true (cond (ltb 46 (r .place)) true (leb (r .place + r .width) 46)) in
+    let none-beside : (k : ℕ) → beside k unlisted ≡ true = λ k. by (λ x. x ≡ true) (eqb k 19) true true (λ _. refl) (λ _. refl) in
+    ⊎-elim (λ before. inl (ltb-true _ _ before)) (λ behind. inr (leb-true _ _ behind))
+    (either _ _ (rw (ne-eqb controller 19 other) at (row-found Pod beside none-beside refl controller)))
+
+-- an edit buffer of either kind has byte 46
+pub has-46 : (kind : Kind) → 46 < sizeOf kind
+unfolding sizeOf
+has-46 kind = ltb-true _ _ (at-kind (λ kind. ltb 46 (sizeOf kind)) refl kind)

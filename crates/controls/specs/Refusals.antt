@@ -5,13 +5,14 @@ use mathlib.Core.List.{List, [], _∷_}
 use lib.Dec.{eqb, leb}
 use lib.ListN.{length, getD}
 use Rattle.ground.specs.Tests.{Test, test}
-use Rattle.programs.specs.Memory.{programSize}
+use Rattle.kinds.specs.declared.Kind.{Kind}
+use Rattle.kinds.specs.Kinds.{sizeOf}
 use Rattle.controls.specs.declared.Row.{Row}
 use Rattle.controls.specs.Table.{selected}
 
--- 30 "a lent buffer too short"
-abbrev pub editTest : List ℕ → Test ℕ
-editTest edit = test 30 (leb programSize (length edit))
+-- 30 "a lent buffer too short": "the kind's own lengths"
+abbrev pub editTest : Kind → List ℕ → Test ℕ
+editTest kind edit = test 30 (leb (sizeOf kind) (length edit))
 
 -- 17 "controller not in the table"
 abbrev pub listedTest : Row → Test ℕ

@@ -4,6 +4,7 @@ use mathlib.Core.Bool.{not}
 use mathlib.Core.List.{List, [], _∷_}
 use lib.Dec.{eqb}
 use Rattle.ground.specs.Tests.{Test, test, tested}
+use Rattle.kinds.specs.declared.Kind.{Kind}
 use Rattle.controls.specs.declared.Row.{Row}
 use Rattle.controls.specs.declared.Reading.{Reading}
 use Rattle.controls.specs.declared.Reading.the-variants.{Value, Refused}
@@ -18,5 +19,5 @@ scaleTests r value = listedTest r ∷ test 17 (not (eqb (r .formula) m-upper)) �
 abbrev pub scaleRow : Row → ℕ → Reading
 scaleRow r value = tested (scaleTests r value) Refused (Value (numberFor r value))
 
-unfoldable pub scaleOf : ℕ → ℕ → Reading
-scaleOf controller value = scaleRow (rowOf controller) value
+unfoldable pub scaleOf : Kind → ℕ → ℕ → Reading
+scaleOf kind controller value = scaleRow (rowOf kind controller) value

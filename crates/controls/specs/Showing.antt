@@ -4,6 +4,7 @@ use mathlib.Core.Bool.{cond}
 use mathlib.Core.List.{List, [], _∷_}
 use lib.Dec.{eqb}
 use Rattle.ground.specs.Tests.{Test, tested}
+use Rattle.kinds.specs.declared.Kind.{Kind}
 use Rattle.controls.specs.declared.Row.{Row}
 use Rattle.controls.specs.declared.Reading.{Reading}
 use Rattle.controls.specs.declared.Reading.the-variants.{Value, Refused}
@@ -28,11 +29,11 @@ shownOf r stored =
     (smallest r stored (r .highest + 1) 0))
 
 -- "Tests: 30, 17, 19, 40." The last is what `shownOf` answers where no value gives the number
-abbrev pub backTests : Row → List ℕ → List (Test ℕ)
-backTests r edit = editTest edit ∷ listedTest r ∷ selectedTest r edit ∷ []
+abbrev pub backTests : Kind → Row → List ℕ → List (Test ℕ)
+backTests kind r edit = editTest kind edit ∷ listedTest r ∷ selectedTest r edit ∷ []
 
-abbrev pub backRow : Row → List ℕ → Reading
-backRow r edit = tested (backTests r edit) Refused (shownOf r (numberIn r edit))
+abbrev pub backRow : Kind → Row → List ℕ → Reading
+backRow kind r edit = tested (backTests kind r edit) Refused (shownOf r (numberIn r edit))
 
-unfoldable pub backOf : ℕ → List ℕ → Reading
-backOf controller edit = backRow (rowOf controller) edit
+unfoldable pub backOf : Kind → ℕ → List ℕ → Reading
+backOf kind controller edit = backRow kind (rowOf kind controller) edit

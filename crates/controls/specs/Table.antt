@@ -1,8 +1,10 @@
--- The 49 controllers: "These 49 controllers are all."
+-- The controllers of each kind of unit: "These 49 controllers are all."; of a Bass POD "Only these controllers".
 use Prim.Native.Nat.{ℕ}
 use mathlib.Core.Bool.{Bool, true, cond}
 use mathlib.Core.List.{List, [], _∷_}
 use lib.Dec.{eqb}
+use Rattle.kinds.specs.declared.Kind.{Kind}
+use Rattle.kinds.specs.declared.Kind.the-variants.{Pod, BassPod}
 use Rattle.controls.specs.declared.Row.{Row}
 use Rattle.controls.specs.Formulas.{v/64, v/2, as-received, threshold, m-upper, m-lower, v/22, v×50, v×256/104, v×256/42, v×22+100, v×25}
 
@@ -43,9 +45,10 @@ rowAs place width formula least highest effect =
 abbrev pub row : ℕ → ℕ → ℕ → ℕ → ℕ → ℕ → ℕ → Entry Row
 row controller place width formula least highest effect = record { key = controller; value = rowAs place width formula least highest effect }
 
--- "a pair c>b is controller and byte"; Req 01: "51 is raised to at least 200, 58 to at least 150 and 54 to at least 1", and 0 raises nothing
-unfoldable pub rows : List (Entry Row)
-rows =
+-- "a pair c>b is controller and byte"; Req 01: "51 is raised to at least 200, 58 to at least 150 and 54 to at least 1", and 0 raises nothing. A Bass POD:
+-- "12>3 and 19>49 as received up to 15; 64>2 by v/64; 13>4, 14>6, 15>7, 16>8, 17>10, 18>11, 1>50 by v/2"
+unfoldable pub rows : Kind → List (Entry Row)
+rows Pod =
     row 25 0 1 v/64 0 127 none ∷
     row 26 1 1 v/64 0 127 none ∷
     row 27 2 1 v/64 0 127 none ∷
@@ -96,14 +99,26 @@ rows =
     row 58 48 2 v×25 150 127 tremolo ∷
     row 59 50 1 as-received 0 127 tremolo ∷
     []
+rows BassPod =
+    row 12 3 1 as-received 0 15 none ∷
+    row 19 49 1 as-received 0 15 none ∷
+    row 64 2 1 v/64 0 127 none ∷
+    row 13 4 1 v/2 0 127 none ∷
+    row 14 6 1 v/2 0 127 none ∷
+    row 15 7 1 v/2 0 127 none ∷
+    row 16 8 1 v/2 0 127 none ∷
+    row 17 10 1 v/2 0 127 none ∷
+    row 18 11 1 v/2 0 127 none ∷
+    row 1 50 1 v/2 0 127 none ∷
+    []
 
 -- "a controller not in the table or above 127" has a row of no bytes
 abbrev pub unlisted : Row
 unlisted = rowAs 0 0 0 0 0 none
 
 -- the row of a controller
-unfoldable pub rowOf : ℕ → Row
-rowOf controller = find unlisted controller rows
+unfoldable pub rowOf : Kind → ℕ → Row
+rowOf kind controller = find unlisted controller (rows kind)
 
 abbrev pub selects : ℕ → ℕ → Entry ℕ
 selects value effect = record { key = value; value = effect }

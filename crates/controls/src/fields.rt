@@ -3,8 +3,7 @@ ghost use mathlib.Core.Path.{_≡_};
 ghost use Prim.Native.Nat.{_≤_, _<_, _+_};
 ghost use lib.ListN.{length, getD};
 ghost use Rattle.controls.specs.Applying.{storeRow};
-ghost use Rattle.programs.specs.Memory.{programSize};
-ghost use Rattle.controls.specs.Private.{Sane};
+ghost use Rattle.controls.specs.Private.{SaneForSome};
 ghost use Rattle.controls.specs.Fields.{readAt, putAt};
 use crate::Row;
 use crate::formulas;
@@ -55,10 +54,10 @@ fn put(edit: &mut [u8], place: usize, width: u8, number: u32)
 
 // The row's number for a value into the row's bytes.
 pub(crate) fn store(row: Row, value: u32, edit: &mut [u8])
-    requires { ⌜ Sane row ⌝ }
+    requires { ⌜ SaneForSome row ⌝ }
     requires { ⌜ 1 ≤ row .width ⌝ }
     requires { ⌜ value ≤ 127 ⌝ }
-    requires { ⌜ programSize ≤ length (now edit) ⌝ }
+    requires { ⌜ row .place + row .width ≤ length (now edit) ⌝ }
     ensures { λ _. ⌜ now (edit .exit) ≡ storeRow row value (now (edit .entry)) ⌝ }
 {
     let place = row.place as usize;

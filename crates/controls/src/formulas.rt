@@ -2,7 +2,7 @@
 ghost use mathlib.Core.Path.{_≡_};
 ghost use Prim.Native.Nat.{_≤_, _+_};
 ghost use Rattle.controls.specs.Formulas.{numberFor, mOf, nextFor};
-ghost use Rattle.controls.specs.Private.{Sane};
+ghost use Rattle.controls.specs.Private.{SaneForSome};
 ghost use Rattle.controls.specs.Showing.{smallest, sevenBits, shownOf};
 use crate::Reading;
 use crate::Row;
@@ -34,7 +34,7 @@ pub(crate) const V_25: u8 = 11;
 
 // The row's number for v: by its formula, or from its formula's column of the sheet.
 pub(crate) fn number_for(row: Row, v: u16) -> u16
-    requires { ⌜ Sane row ⌝ }
+    requires { ⌜ SaneForSome row ⌝ }
     requires { ⌜ v ≤ 127 ⌝ }
     ensures { λ r. ⌜ r ≡ numberFor row v ⌝ }
 {
@@ -82,7 +82,7 @@ fn m_of(stored: u32) -> u32
 
 // The number to store for v where `stored` stands.
 pub(crate) fn next(row: Row, v: u16, stored: u32) -> u32
-    requires { ⌜ Sane row ⌝ }
+    requires { ⌜ SaneForSome row ⌝ }
     requires { ⌜ v ≤ 127 ⌝ }
     ensures { λ r. ⌜ r ≡ nextFor row v stored ⌝ }
 {
@@ -98,7 +98,7 @@ pub(crate) fn next(row: Row, v: u16, stored: u32) -> u32
 
 // The value that shows a stored number.
 pub(crate) fn shown(row: Row, stored: u32) -> Reading
-    requires { ⌜ Sane row ⌝ }
+    requires { ⌜ SaneForSome row ⌝ }
     ensures { λ r. ⌜ r ≡ shownOf row stored ⌝ }
 {
     let m = m_of(stored);
@@ -125,7 +125,7 @@ fn seven_bits(stored: u32, m: u32, bits: u32) -> Reading
 
 // The first value up to the row's highest that gives the stored number.
 fn first(row: Row, stored: u32) -> Reading
-    requires { ⌜ Sane row ⌝ }
+    requires { ⌜ SaneForSome row ⌝ }
     ensures { λ r. ⌜ r ≡ smallest row stored (row .highest + 1) 0 ⌝ }
 {
     let highest = row.highest as u16;

@@ -1,13 +1,13 @@
-// The 49 controllers: a controller to its stored number, and a stored number back to its controller.
+// The controllers of each kind of unit: a controller to its stored number, and a stored number back to its controller.
 mod fields;
 mod formulas;
 mod sheet;
 mod table;
 
-use programs::PROGRAM;
+use kinds::Kind;
 pub use table::row_of;
 ghost use mathlib.Core.Path.{_≡_};
-ghost use Rattle.controls.specs.Private.{Sane};
+ghost use Rattle.controls.specs.Private.{Sane, SaneForSome};
 ghost use Rattle.controls.specs.Scaling.{scaleRow, scaleOf};
 ghost use Rattle.controls.specs.Applying.{changed, applyRow, applyOf};
 ghost use Rattle.controls.specs.Showing.{backRow, backOf};
@@ -35,15 +35,15 @@ pub enum Reading {
 }
 
 // The controller's number for a value.
-pub fn scale(controller: u32, value: u32) -> Reading
-    ensures { λ r. ⌜ r ≡ scaleOf controller value ⌝ }
+pub fn scale(controller: u32, value: u32, kind: Kind) -> Reading
+    ensures { λ r. ⌜ r ≡ scaleOf kind controller value ⌝ }
 {
-    let row = row_of(controller);
+    let row = row_of(controller, kind);
     scale_row(row, value)
 }
 
 fn scale_row(row: Row, value: u32) -> Reading
-    requires { ⌜ Sane row ⌝ }
+    requires { ⌜ SaneForSome row ⌝ }
     ensures { λ r. ⌜ r ≡ scaleRow row value ⌝ }
 {
     if row.width == 0 {
@@ -63,18 +63,18 @@ fn scale_row(row: Row, value: u32) -> Reading
 }
 
 // The controller's number for a value into its bytes of the edit buffer.
-pub fn apply(controller: u32, value: u32, edit: &mut [u8]) -> Change
-    ensures { λ r. ⌜ changed r (now (edit .exit)) ≡ applyOf controller value (now (edit .entry)) ⌝ }
+pub fn apply(controller: u32, value: u32, kind: Kind, edit: &mut [u8]) -> Change
+    ensures { λ r. ⌜ changed r (now (edit .exit)) ≡ applyOf kind controller value (now (edit .entry)) ⌝ }
 {
-    let row = row_of(controller);
-    apply_row(row, value, edit)
+    let row = row_of(controller, kind);
+    apply_row(row, value, kind, edit)
 }
 
-fn apply_row(row: Row, value: u32, edit: &mut [u8]) -> Change
-    requires { ⌜ Sane row ⌝ }
-    ensures { λ r. ⌜ changed r (now (edit .exit)) ≡ applyRow row value (now (edit .entry)) ⌝ }
+fn apply_row(row: Row, value: u32, kind: Kind, edit: &mut [u8]) -> Change
+    requires { ⌜ Sane kind row ⌝ }
+    ensures { λ r. ⌜ changed r (now (edit .exit)) ≡ applyRow kind row value (now (edit .entry)) ⌝ }
 {
-    if edit.len() < PROGRAM {
+    if edit.len() < kinds::size(kind) as usize {
         return Change::Refused(30);
     }
     if row.width == 0 {
@@ -92,18 +92,18 @@ fn apply_row(row: Row, value: u32, edit: &mut [u8]) -> Change
 }
 
 // The smallest value of the controller that gives what stands in its bytes of the edit buffer.
-pub fn show_back(controller: u32, edit: &[u8]) -> Reading
-    ensures { λ r. ⌜ r ≡ backOf controller (now (edit .entry)) ⌝ }
+pub fn show_back(controller: u32, kind: Kind, edit: &[u8]) -> Reading
+    ensures { λ r. ⌜ r ≡ backOf kind controller (now (edit .entry)) ⌝ }
 {
-    let row = row_of(controller);
-    back_row(row, edit)
+    let row = row_of(controller, kind);
+    back_row(row, kind, edit)
 }
 
-fn back_row(row: Row, edit: &[u8]) -> Reading
-    requires { ⌜ Sane row ⌝ }
-    ensures { λ r. ⌜ r ≡ backRow row (now (edit .entry)) ⌝ }
+fn back_row(row: Row, kind: Kind, edit: &[u8]) -> Reading
+    requires { ⌜ Sane kind row ⌝ }
+    ensures { λ r. ⌜ r ≡ backRow kind row (now (edit .entry)) ⌝ }
 {
-    if edit.len() < PROGRAM {
+    if edit.len() < kinds::size(kind) as usize {
         return Reading::Refused(30);
     }
     if row.width == 0 {

@@ -1,6 +1,7 @@
-// The table, row by row in the document's order. The compiler makes columns of the arms; of constant columns it would
-// write out a copy at every call.
+// The table of each kind of unit, row by row in the documents' order. The compiler makes columns of the arms; of constant
+// columns it would write out a copy at every call.
 ghost use mathlib.Core.Path.{_≡_};
+ghost use Rattle.kinds.specs.declared.Kind.the-variants.{Pod, BassPod};
 ghost use Rattle.controls.specs.Table.{rowAs, rowOf, effectOf, selected};
 use crate::Row;
 use crate::formulas::AS_RECEIVED;
@@ -15,6 +16,7 @@ use crate::formulas::V_50;
 use crate::formulas::V_64;
 use crate::formulas::V_256_42;
 use crate::formulas::V_256_104;
+use kinds::Kind;
 
 // The effects that share bytes 48 to 54.
 const NONE: u8 = 0;
@@ -42,10 +44,20 @@ fn row(place: u8, width: u8, formula: u8, least: u8, highest: u8, effect: u8) ->
     }
 }
 
-// The row of a controller: the first byte of its field, the bytes, the formula, the least number, the highest value,
+// The row of a controller of a kind.
+pub fn row_of(controller: u32, kind: Kind) -> Row
+    ensures { λ r. ⌜ r ≡ rowOf kind controller ⌝ }
+{
+    match kind {
+        Kind::Pod => pod_row(controller),
+        Kind::BassPod => bass_row(controller),
+    }
+}
+
+// The 49 controllers of a POD: the first byte of the field, the bytes, the formula, the least number, the highest value,
 // the effect.
-pub fn row_of(controller: u32) -> Row
-    ensures { λ r. ⌜ r ≡ rowOf controller ⌝ }
+fn pod_row(controller: u32) -> Row
+    ensures { λ r. ⌜ r ≡ rowOf Pod controller ⌝ }
 {
     match controller {
         25 => row(0, 1, V_64, 0, 127, NONE),
@@ -97,6 +109,25 @@ pub fn row_of(controller: u32) -> Row
         57 => row(51, 2, V_22_100, 0, 127, ROTARY),
         58 => row(48, 2, V_25, 150, 127, TREMOLO),
         59 => row(50, 1, AS_RECEIVED, 0, 127, TREMOLO),
+        _ => row(0, 0, 0, 0, 0, NONE),
+    }
+}
+
+// The ten of a Bass POD.
+fn bass_row(controller: u32) -> Row
+    ensures { λ r. ⌜ r ≡ rowOf BassPod controller ⌝ }
+{
+    match controller {
+        12 => row(3, 1, AS_RECEIVED, 0, 15, NONE),
+        19 => row(49, 1, AS_RECEIVED, 0, 15, NONE),
+        64 => row(2, 1, V_64, 0, 127, NONE),
+        13 => row(4, 1, V_2, 0, 127, NONE),
+        14 => row(6, 1, V_2, 0, 127, NONE),
+        15 => row(7, 1, V_2, 0, 127, NONE),
+        16 => row(8, 1, V_2, 0, 127, NONE),
+        17 => row(10, 1, V_2, 0, 127, NONE),
+        18 => row(11, 1, V_2, 0, 127, NONE),
+        1 => row(50, 1, V_2, 0, 127, NONE),
         _ => row(0, 0, 0, 0, 0, NONE),
     }
 }

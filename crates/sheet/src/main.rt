@@ -3,9 +3,10 @@ ghost use mathlib.Core.Path.{_≡_};
 ghost use Prim.Native.Nat.{_≤_};
 ghost use Rattle.controls.specs.Sheet.{onSheet};
 use controls::Reading;
+use kinds::Kind;
 use libc::STDOUT_FILENO;
 
-// A controller of each column. 57 has the numbers of 56.
+// A controller of a POD for each column. 57 has the numbers of 56.
 const COLUMNS: [u32; 6] = [23, 51, 52, 54, 56, 58];
 
 fn main() {
@@ -47,7 +48,7 @@ fn in_column(column: usize, value: u32) -> u16
     requires { ⌜ value ≤ 127 ⌝ }
     ensures { λ r. ⌜ r ≡ onSheet column value ⌝ }
 {
-    match controls::scale(COLUMNS[column], value) {
+    match controls::scale(COLUMNS[column], value, Kind::Pod) {
         Reading::Value(number) => number,
         Reading::Refused(number) => number as u16,
     }

@@ -11,6 +11,6 @@ apply-spec =
     tie.close
     (tie.spec
     (λ c κs. search needs)
-    (λ c κs. rw (c .before .row-of .ensures) (row-sane _))
+    (λ c κs. rw (c .before .row-of .ensures) (row-sane _ _))
     (λ c. search needs)
     (λ c. rw (← c .before .before .before .before .row-of .ensures) (c .before .before .apply-row .ensures)))

@@ -1,6 +1,9 @@
 -- The tests are those of `applyRow`, in its order.
 use Rattle.ground.proofs.Tests.{tests}
 use borrow.Author.Needs.{needs}
+use borrow.Author.Tests.{le-leb, ne-eqb}
+use native.Mathlib.Omega.{arith}
+use Rattle.controls.proofs.Rows.{has-46}
 use Rattle.controls.proofs.apply_row.Statement.{statement}
 use Rattle.controls.proofs.apply_row.Tie as tie
 
@@ -8,13 +11,25 @@ pub apply-row-spec : {M : Type 1} → statement M
 apply-row-spec =
     tie.close
     (tie.spec
-    (λ c. search tests)
-    (λ c. search tests)
-    (λ c. search needs)
-    (λ c. search tests)
-    (λ c. search needs)
-    (λ c κs. search needs)
     (λ c κs. search needs)
     (λ c. search needs)
-    (λ c. let k = c .before .before .before .before in search (tests, ← k .before .is-selected .ensures, k .if4 .taken, c .before .before .store .ensures))
-    (λ c. search (tests, ← c .before .is-selected .ensures, c .if4 .left)))
+    (λ c. search (tests, ← c .before .size .ensures))
+    (λ c. search (tests, ← c .before .before .before .size .ensures))
+    (λ c. search needs)
+    (λ c. search (tests, ← c .before .before .before .before .before .size .ensures))
+    (λ c. let long = c .before .before .before .before .before .before .size .ensures in omega (arith, has-46 (c .before .before .before .before .before .before .before .before .args .kind)))
+    (λ c κs. search needs)
+    (λ c κs. let long = c .before .before .before .before .before .before .before .before .before .size .ensures in ((_, c .before .before .before .before .before .before .before .before .before .before .before .pre), search needs))
+    (λ c. search needs)
+    (λ c.
+    let k = c .before .before .before .before in
+    rw (
+      ← k .before .before .before .before .before .before .before .before .size .ensures,
+      le-leb _ _ (k .before .before .before .before .before .before .before .if1 .left),
+      ne-eqb _ _ (k .before .before .before .before .before .if2 .left),
+      le-leb _ _ (k .before .before .before .if3 .left),
+      ← k .before .is-selected .ensures,
+      k .if4 .taken,
+      c .before .before .store .ensures,
+    ))
+    (λ c. search (tests, ← c .before .before .before .before .before .before .before .before .size .ensures, ← c .before .is-selected .ensures, c .if4 .left)))

@@ -11,5 +11,5 @@ scale-spec =
     tie.close
     (tie.spec
     (λ c κs. search needs)
-    (λ c κs. rw (c .row-of .ensures) (row-sane _))
+    (λ c κs. rw (c .row-of .ensures) (_, row-sane _ _))
     (λ c. rw (← c .before .row-of .ensures) (c .scale-row .ensures)))

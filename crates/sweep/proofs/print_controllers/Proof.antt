@@ -5,10 +5,10 @@ use Rattle.sweep.proofs.print_controllers.Statement.{statement}
 use Rattle.sweep.proofs.print_controllers.Tie as tie
 
 abbrev Inv-loop : tie.InvT-loop
-Inv-loop controller₀ controller = Unit {0}
+Inv-loop number controller₀ controller = Unit {0}
 
 abbrev μ-loop : tie.MeasureT-loop
-μ-loop controller₀ controller = 129 - controller
+μ-loop number controller₀ controller = 129 - controller
 
 pub print-controllers-spec : {M : Type 1} → statement M
 print-controllers-spec =

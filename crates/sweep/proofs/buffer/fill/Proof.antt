@@ -1,6 +1,5 @@
--- A turn for each place. A place is below 72, so its byte is computed with no overflow.
+-- A turn for each place. A place is below 80, so its byte is computed with no overflow.
 use Prim.Native.Nat.{_-_}
-use Rattle.programs.specs.Memory.{programSize}
 use borrow.Author.Needs.{needs}
 use Rattle.sweep.proofs.buffer.fill.Statement.{statement}
 use Rattle.sweep.proofs.buffer.fill.Tie as tie
@@ -9,7 +8,7 @@ abbrev Inv-loop : tie.InvT-loop
 Inv-loop edit₀ value i₀ edit i = Unit {0}
 
 abbrev μ-loop : tie.MeasureT-loop
-μ-loop edit₀ value i₀ edit i = programSize - i
+μ-loop edit₀ value i₀ edit i = 80 - i
 
 pub fill-spec : {M : Type 1} → statement M
 fill-spec =

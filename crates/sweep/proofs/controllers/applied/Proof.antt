@@ -5,10 +5,10 @@ use Rattle.sweep.proofs.controllers.applied.Statement.{statement}
 use Rattle.sweep.proofs.controllers.applied.Tie as tie
 
 abbrev Inv-loop : tie.InvT-loop
-Inv-loop controller tally₀ turn₀ tally turn = Unit {0}
+Inv-loop controller kind tally₀ turn₀ tally turn = Unit {0}
 
 abbrev μ-loop : tie.MeasureT-loop
-μ-loop controller tally₀ turn₀ tally turn = 256 * 129 - turn
+μ-loop controller kind tally₀ turn₀ tally turn = 256 * 129 - turn
 
 pub applied-spec : {M : Type 1} → statement M
 applied-spec =

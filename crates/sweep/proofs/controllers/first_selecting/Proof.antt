@@ -5,10 +5,10 @@ use Rattle.sweep.proofs.controllers.first_selecting.Statement.{statemen
 use Rattle.sweep.proofs.controllers.first_selecting.Tie as tie
 
 abbrev Inv-loop : tie.InvT-loop
-Inv-loop controller setting₀ setting = Unit {0}
+Inv-loop controller kind setting₀ setting = Unit {0}
 
 abbrev μ-loop : tie.MeasureT-loop
-μ-loop controller setting₀ setting = 255 - setting
+μ-loop controller kind setting₀ setting = 255 - setting
 
 pub first-selecting-spec : {M : Type 1} → statement M
 first-selecting-spec =

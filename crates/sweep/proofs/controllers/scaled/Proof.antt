@@ -5,10 +5,10 @@ use Rattle.sweep.proofs.controllers.scaled.Statement.{statement}
 use Rattle.sweep.proofs.controllers.scaled.Tie as tie
 
 abbrev Inv-loop : tie.InvT-loop
-Inv-loop controller tally₀ value₀ tally value = Unit {0}
+Inv-loop controller kind tally₀ value₀ tally value = Unit {0}
 
 abbrev μ-loop : tie.MeasureT-loop
-μ-loop controller tally₀ value₀ tally value = 256 - value
+μ-loop controller kind tally₀ value₀ tally value = 256 - value
 
 pub scaled-spec : {M : Type 1} → statement M
 scaled-spec =

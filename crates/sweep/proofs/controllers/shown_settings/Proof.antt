@@ -5,10 +5,10 @@ use Rattle.sweep.proofs.controllers.shown_settings.Statement.{statement
 use Rattle.sweep.proofs.controllers.shown_settings.Tie as tie
 
 abbrev Inv-loop : tie.InvT-loop
-Inv-loop controller tally₀ setting₀ tally setting = Unit {0}
+Inv-loop controller kind tally₀ setting₀ tally setting = Unit {0}
 
 abbrev μ-loop : tie.MeasureT-loop
-μ-loop controller tally₀ setting₀ tally setting = 256 - setting
+μ-loop controller kind tally₀ setting₀ tally setting = 256 - setting
 
 pub shown-settings-spec : {M : Type 1} → statement M
 shown-settings-spec =
