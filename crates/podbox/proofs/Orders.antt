@@ -1,5 +1,5 @@
 -- What a message that is handed over whole asks for, step by step: its length, its frame, its body; and that its first bytes say it.
-use Prim.Native.Nat.{ℕ, _+_}
+use Prim.Native.Nat.{ℕ, _<_}
 use mathlib.Core.Bool.{Bool, true, false, cond, not, _&&_}
 use mathlib.Core.List.{List, _∷_}
 use mathlib.Core.Path.{_≡_, refl, ap, _∙_}
@@ -9,7 +9,8 @@ use lib.ListN.{length, take, length-take}
 use lib.Seq.{take-all}
 use borrow.Author.Tests.{leb-true, leb-false, le-ltb, lt-ltb}
 use Rattle.ground.specs.Tests.{test}
-use Rattle.programs.specs.Memory.{programSize}
+use Rattle.kinds.specs.declared.Kind.{Kind}
+use Rattle.kinds.specs.Kinds.{deviceOf}
 use Rattle.programs.specs.Held.{Held}
 use Rattle.sockets.specs.Framer.{SysEx}
 use Rattle.sysex.specs.declared.Settings.{Settings}
@@ -31,45 +32,45 @@ not-over m n = go (leb m n) refl
     go true h = rw (h, le-ltb n m (leb-true m n h))
     go false h = rw (h, lt-ltb n m (leb-false m n h))
 
-module _ (settings : Settings) (message : List ℕ) where
-  pub message-order : messageOrder settings message
-      ≡ cond (ltb (longest programSize) (length message)) (Refused (TooLong (longest programSize))) (cond (isFramed message) (judgeOf programSize settings (bodyOf message)) (Refused Ours))
+module _ (kind : Kind) (settings : Settings) (message : List ℕ) where
+  pub message-order : messageOrder kind settings message
+      ≡ cond (ltb (longest kind) (length message)) (Refused (TooLong (longest kind))) (cond (isFramed message) (judgeOf kind settings (bodyOf message)) (Refused (Ours (deviceOf kind))))
   unfolding messageOrder judgeOf
-  message-order = rw (not-over (length message) (longest programSize)) (steps (ltb (longest programSize) (length message)) (isFramed message))
+  message-order = rw (not-over (length message) (longest kind)) (steps (ltb (longest kind) (length message)) (isFramed message))
     where
       steps : (over framed : Bool)
-          → judgedBy (test (TooLong (longest programSize)) (not over) ∷ test Ours (framed && hasForm (bodyOf message)) ∷ furtherTests programSize settings (bodyOf message)) (bodyOrder (bodyOf message))
-          ≡ cond over (Refused (TooLong (longest programSize))) (cond framed (judgeOf programSize settings (bodyOf message)) (Refused Ours))
+          → judgedBy (test (TooLong (longest kind)) (not over) ∷ test (Ours (deviceOf kind)) (framed && hasForm kind (bodyOf message)) ∷ furtherTests kind settings (bodyOf message)) (bodyOrder (bodyOf message))
+          ≡ cond over (Refused (TooLong (longest kind))) (cond framed (judgeOf kind settings (bodyOf message)) (Refused (Ours (deviceOf kind))))
       steps true framed = refl
       steps false true = refl
       steps false false = refl
 
-  pub handed-does : (player : ℕ) (held : Held) → handedDoes settings player message held
-      ≡ cond (ltb (longest programSize) (length message)) (refusing held 10)
-      (cond (isFramed message) (messageDoes settings player held (SysEx (bodyOf message))) (refusing held 11))
+  pub handed-does : (player : ℕ) (held : Held) → handedDoes kind settings player message held
+      ≡ cond (ltb (longest kind) (length message)) (refusing held 10)
+      (cond (isFramed message) (messageDoes kind settings player held (SysEx (bodyOf message))) (refusing held 11))
   unfolding messageDoes orderDoes
   handed-does player held =
-      ap (λ (o : Order). orderDoes programSize settings player o (bodyOf message) held) message-order ∙ steps (ltb (longest programSize) (length message)) (isFramed message)
+      ap (λ (o : Order). orderDoes kind settings player o (bodyOf message) held) message-order ∙ steps (ltb (longest kind) (length message)) (isFramed message)
     where
       steps : (over framed : Bool)
-          → orderDoes programSize settings player (cond over (Refused (TooLong (longest programSize))) (cond framed (judgeOf programSize settings (bodyOf message)) (Refused Ours))) (bodyOf message) held
-          ≡ cond over (refusing held 10) (cond framed (messageDoes settings player held (SysEx (bodyOf message))) (refusing held 11))
+          → orderDoes kind settings player (cond over (Refused (TooLong (longest kind))) (cond framed (judgeOf kind settings (bodyOf message)) (Refused (Ours (deviceOf kind))))) (bodyOf message) held
+          ≡ cond over (refusing held 10) (cond framed (messageDoes kind settings player held (SysEx (bodyOf message))) (refusing held 11))
       steps true framed = refl
       steps false true = refl
       steps false false = refl
 
--- The first 5,194 bytes say it: one byte more than the longest message is enough to judge by.
-pub first-bytes : (message : List ℕ) → reasonOf (take (longest programSize + 1) message) ≡ reasonOf message
-first-bytes message = go (leb (length message) (longest programSize + 1)) refl
+-- The first bytes say it: one byte more than the longest message is enough to judge by.
+pub first-bytes : (kind : Kind) (n : ℕ) → longest kind < n → (message : List ℕ) → reasonOf kind (take n message) ≡ reasonOf kind message
+first-bytes kind n more message = go (leb (length message) n) refl
   where
-    go : (t : Bool) → leb (length message) (longest programSize + 1) ≡ t → reasonOf (take (longest programSize + 1) message) ≡ reasonOf message
-    go true h = ap reasonOf (take-all (longest programSize + 1) message (leb-true _ _ h))
+    go : (t : Bool) → leb (length message) n ≡ t → reasonOf kind (take n message) ≡ reasonOf kind message
+    go true h = ap (reasonOf kind) (take-all n message (leb-true _ _ h))
     go false h =
-        let many = leb-false (length message) (longest programSize + 1) h in
-        let kept = length-take (longest programSize + 1) message in
+        let many = leb-false (length message) n h in
+        let kept = length-take n message in
         rw (
-          message-order freshSettings (take (longest programSize + 1) message),
-          message-order freshSettings message,
-          lt-ltb (longest programSize) (length message) (omega arith),
-          lt-ltb (longest programSize) (length (take (longest programSize + 1) message)) (omega arith),
+          message-order kind freshSettings (take n message),
+          message-order kind freshSettings message,
+          lt-ltb (longest kind) (length message) (omega arith),
+          lt-ltb (longest kind) (length (take n message)) (omega arith),
         )
