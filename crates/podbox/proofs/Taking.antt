@@ -1,9 +1,14 @@
--- A step of a sound receiver stays within the receive buffer, and a socket is its sender's number.
-use Prim.Native.Nat.{ℕ, zero, suc, _≤_, _<_}
-use mathlib.Core.Bool.{true}
+-- A step of a sound receiver stays within the receive buffer, a socket is its sender's number, and a program change names a program.
+use Prim.Native.Nat.{ℕ, zero, suc, _/_, _≤_, _<_}
+use mathlib.Core.Bool.{true, _&&_}
 use mathlib.Core.Path.{_≡_, refl}
 use native.Mathlib.Omega.{arith}
 use Rattle.kinds.specs.declared.Kind.{Kind}
+use Rattle.kinds.specs.Kinds.{takesProgramChange}
+use Rattle.programs.specs.Memory.{programCount}
+use lib.Dec.{eqb, leb}
+use borrow.Author.Tests.{leb-true}
+use Rattle.ground.proofs.Tests.{both}
 use Rattle.framing.specs.declared.Receiver.{Receiver}
 use Rattle.framing.specs.declared.Event.{Event}
 use Rattle.framing.specs.declared.Event.the-variants.{Nothing, Collect, Cut, CutAndOpen, TooLong, SysEx, Channel}
@@ -12,6 +17,7 @@ use Rattle.framing.specs.Bytes.{stepOf}
 use Rattle.framing.proofs.Keeps.{collects-below, finishes-within}
 use Rattle.sockets.specs.Promise.{socketNumber, socketOf}
 use Rattle.sysex.proofs.Lengths.{longest-bounds}
+use Rattle.podbox.specs.Messages.{isProgramChange}
 use Rattle.podbox.specs.Box.{limit}
 use Rattle.podbox.specs.Private.{Within}
 
@@ -38,3 +44,13 @@ pub sender : (player : ℕ) → player ≤ 1 → socketNumber (socketOf player) 
 sender zero h = refl
 sender (suc zero) h = refl
 sender (suc (suc n)) h = absurd (omega arith)
+
+pub change-numbered : (kind : Kind) (status number : ℕ) → isProgramChange kind status number ≡ true → (1 ≤ number) × (number ≤ programCount)
+unfolding isProgramChange
+change-numbered kind status number t =
+    let low = leb 1 number in
+    let high = leb number programCount in
+    let p = both (takesProgramChange kind) (eqb (status / 16) 0xC && (low && high)) t in
+    let q = both (eqb (status / 16) 0xC) (low && high) (p .1) in
+    let r = both low high (q .1) in
+    (leb-true _ _ (r .0), leb-true _ _ (r .1))

@@ -4,8 +4,11 @@ use Prim.Native.Nat.{ℕ, _+_, _-_}
 use mathlib.Core.List.{List, []}
 use mathlib.Core.Path.{ap, _∙_}
 use lib.ListN.{take, drop}
+use native.Mathlib.Nat.{add-sub-cancel-left}
+use native.Mathlib.Omega.{arith}
 use Rattle.ground.specs.Calls.{outcome}
-use Rattle.programs.specs.Memory.{programSize, putPart}
+use Rattle.kinds.specs.Kinds.{sizeOf}
+use Rattle.programs.specs.Memory.{editPlace, putPart}
 use Rattle.programs.specs.Held.{heldOf}
 use Rattle.controls.specs.Applying.{Changed, applyOf}
 use Rattle.sysex.specs.Carrying.{Outcome}
@@ -15,27 +18,38 @@ use Rattle.podbox.proofs.channel.controller.Statement.{statement}
 use Rattle.podbox.proofs.channel.controller.Tie as tie
 
 -- the edit buffer from a place on, changed
-abbrev put : List ℕ → ℕ → Changed → Outcome
-put memory place done = outcome (changeAnswer (done .answer)) (heldOf (putPart place (place + programSize - place) (done .edit) memory)) []
+abbrev put : List ℕ → ℕ → ℕ → Changed → Outcome
+put memory place count done = outcome (changeAnswer (done .answer)) (heldOf (putPart place (place + count - place) (done .edit) memory)) []
+
+part-apply-end : tie.Need-part-apply-end
+part-apply-end c = omega (arith, c .size .ensures, c .before .edit-place .ensures, c .before .before .before .pre)
 
 returns : tie.Need-returns
 returns c =
-    let a = c .before .before .before .before .before .before .before .args in
-    let e = c .before .before .before .before .before .edit-place in
+    let a = c .before .before .before .before .before .before .before .before .args in
+    let e = c .before .before .before .before .before .before .edit-place in
+    let s = c .before .before .before .before .before .size in
+    let place = e .ensures in
+    let count = s .ensures in
     rw (c .change-answer .ensures)
-    (ap (put (now (a .memory)) (e .result)) (c .before .before .before .apply .ensures)
-    ∙ ap (λ (place : ℕ). put (now (a .memory)) place (applyOf (a .number) (a .value) (take (place + programSize - place) (drop place (now (a .memory)))))) (e .ensures))
+    (ap (put (now (a .memory)) (e .result) (s .result)) (c .before .before .before .apply .ensures)
+    ∙ (λ i. put (now (a .memory)) (place i) (count i)
+    (applyOf (a .kind) (a .number) (a .value) (take (place i + count i - place i) (drop (place i) (now (a .memory))))))
+    ∙ ap (λ (n : ℕ). outcome (changeAnswer (applyOf (a .kind) (a .number) (a .value) (take n (drop (editPlace (a .kind) (a .player)) (now (a .memory)))) .answer))
+    (heldOf (putPart (editPlace (a .kind) (a .player)) n (applyOf (a .kind) (a .number) (a .value) (take n (drop (editPlace (a .kind) (a .player)) (now (a .memory)))) .edit) (now (a .memory)))) [])
+    (add-sub-cancel-left (editPlace (a .kind) (a .player)) (sizeOf (a .kind))))
 
 pub controller-spec : {M : Type 1} → statement M
 controller-spec =
     tie.close
     (tie.spec
-    (λ c. search needs)
+    (λ c κs. search needs)
     (λ c κs. search needs)
     (λ c. search needs)
     (λ c. search needs)
     (λ c. search needs)
     (λ c. search needs)
+    part-apply-end
     (λ c κs. search needs)
     (λ c κs. search needs)
     (λ c. search needs)

@@ -16,7 +16,7 @@ abbrev μ-loop : tie.MeasureT-loop
 μ-loop memory₀ from to count i₀ memory i = count - i
 
 loop-holds : tie.Need-loop-holds Inv-loop μ-loop
-loop-holds c = (search needs, refl, copy-begin _ _ _)
+loop-holds c = let a = c .args in (search needs, refl, copy-begin (now (a .memory)) (a .from) (a .to))
 
 loop-again : tie.Need-loop-again Inv-loop μ-loop
 loop-again c =

@@ -1,0 +1,63 @@
+-- The tests are those of `handedTests`, in its order.
+use borrow.Author.Tests.{le-leb}
+use native.Mathlib.Omega.{arith}
+use Rattle.ground.proofs.Tests.{tests}
+use Rattle.sockets.specs.Promise.{directOf}
+use borrow.Author.Needs.{needs}
+use Rattle.podbox.proofs.panel.handed.Statement.{statement}
+use Rattle.podbox.proofs.panel.handed.Tie as tie
+
+returns : tie.Need-returns
+unfolding directOf
+returns c =
+    let short = rw (c .before .before .memory-size .ensures) at (c .before .if1 .taken) in
+    search (tests, short, c .refused .ensures)
+
+returns-2 : tie.Need-returns-2
+unfolding directOf
+returns-2 c =
+    let k = c .before .before .before in
+    let holds = rw (k .before .memory-size .ensures) at (k .if1 .left) in
+    let short = rw (c .before .before .longest .ensures) at (c .before .if2 .taken) in
+    search (tests, holds, short, c .refused2 .ensures)
+
+framed-requires : tie.Need-framed-requires
+framed-requires c κs =
+    let k = c .before .before .before .before in
+    let long = rw (k .before .longest .ensures) at (k .if2 .left) in
+    let holds = rw (k .before .before .before .memory-size .ensures) at (k .before .before .if1 .left) in
+    (omega arith, omega arith)
+
+returns-3 : tie.Need-returns-3
+unfolding directOf
+returns-3 c =
+    let k = c .before .before .before .before .before .before .before .before .before in
+    let long = rw (k .before .longest .ensures) at (k .if2 .left) in
+    let holds = rw (k .before .before .before .memory-size .ensures) at (k .before .before .if1 .left) in
+    rw (le-leb _ _ holds, le-leb _ _ long, ← c .before .before .before .before .before .before .before .before .are-valid .ensures, c .before .before .before .before .before .before .before .if3 .taken) (c .before .before .before .before .framed .ensures)
+
+returns-4 : tie.Need-returns-4
+unfolding directOf
+returns-4 c =
+    let k = c .before .before .before in
+    let long = rw (k .before .longest .ensures) at (k .if2 .left) in
+    let holds = rw (k .before .before .before .memory-size .ensures) at (k .before .before .if1 .left) in
+    search (tests, holds, long, ← c .before .before .are-valid .ensures, c .before .if3 .left, c .refused3 .ensures)
+
+pub handed-spec : {M : Type 1} → statement M
+handed-spec =
+    tie.close
+    (tie.spec
+    (λ c κs. search needs)
+    (λ c κs. search needs)
+    returns
+    (λ c κs. search needs)
+    (λ c κs. search needs)
+    returns-2
+    (λ c κs. search needs)
+    framed-requires
+    (λ c. search needs)
+    (λ c. search needs)
+    returns-3
+    (λ c κs. search needs)
+    returns-4)
