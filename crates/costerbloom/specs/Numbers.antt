@@ -3,7 +3,8 @@ use Prim.Native.Nat.{ℕ, _+_, _*_}
 use mathlib.Core.List.{List, [], _∷_}
 use Rattle.ground.specs.Tests.{tested}
 use Rattle.ground.specs.Calls.{Left, left}
-use Rattle.programs.specs.Memory.{programSize}
+use Rattle.kinds.specs.declared.Kind.{Kind}
+use Rattle.kinds.specs.Kinds.{kindOf}
 use Rattle.programs.specs.Held.{Held, Edit, bytesIn}
 use Rattle.controls.specs.declared.Reading.{Reading}
 use Rattle.controls.specs.declared.Reading.the-variants as reading
@@ -16,7 +17,7 @@ use Rattle.sysex.specs.declared.Settings.{Settings}
 use Rattle.sysex.specs.declared.Answer.{Answer}
 use Rattle.sysex.specs.Numbers.{answerNumber, answerLength}
 use Rattle.sysex.specs.Carrying.{heldTest}
-use Rattle.podbox.specs.Box.{panel, takeOf, wholeOf}
+use Rattle.podbox.specs.Box.{kindTest, panel, takeOf, wholeOf}
 
 -- the settings, each a number of its own
 abbrev pub settingsOf : ℕ → ℕ → ℕ → ℕ → ℕ → ℕ → Settings
@@ -36,22 +37,29 @@ readingNumber (reading.Refused number) = 65536 + refusalOf (reading.Refused numb
 abbrev pub tookNumbers : Took Held Answer → Took Held ℕ
 tookNumbers t = took (t .receiver) (packed (t .answer)) (t .held) (t .receive) (t .reply)
 
-unfoldable pub takeNumbers : Settings → ℕ → Receiver → ℕ → Held → List ℕ → List ℕ → Took Held ℕ
-takeNumbers settings socket receiver byte held receive reply = tookNumbers (takeOf settings socket receiver byte held receive reply)
+unfoldable pub takeNumbers : ℕ → Settings → ℕ → Receiver → ℕ → Held → List ℕ → List ℕ → Took Held ℕ
+takeNumbers kind settings socket receiver byte held receive reply = tookNumbers (takeOf kind settings socket receiver byte held receive reply)
 
 abbrev pub leftNumbers : Left Held Answer → Left Held ℕ
 leftNumbers l = left (packed (l .answer)) (l .held) (l .reply)
 
-unfoldable pub wholeNumbers : Settings → List ℕ → Held → List ℕ → Left Held ℕ
-wholeNumbers settings message held reply = leftNumbers (wholeOf settings message held reply)
+unfoldable pub wholeNumbers : ℕ → Settings → List ℕ → Held → List ℕ → Left Held ℕ
+wholeNumbers kind settings message held reply = leftNumbers (wholeOf kind settings message held reply)
 
--- "Scaling may be asked directly"
-unfoldable pub scaleNumber : ℕ → ℕ → ℕ
-scaleNumber controller value = readingNumber (scaleOf controller value)
+-- "Scaling may be asked directly": 32 for a number that is no kind, then what the kind's controllers say
+unfoldable pub numberScale : ℕ → ℕ → ℕ → Reading
+numberScale kind controller value = tested (kindTest kind ∷ []) reading.Refused (scaleOf (kindOf kind) controller value)
+
+unfoldable pub scaleNumber : ℕ → ℕ → ℕ → ℕ
+scaleNumber kind controller value = readingNumber (numberScale kind controller value)
 
 -- "Back, from the edit buffer", the panel's, where memory is lent: 30 for a short one
-unfoldable pub memoryBack : ℕ → Held → Reading
-memoryBack controller held = tested (heldTest programSize held ∷ []) reading.Refused (backOf controller (bytesIn programSize panel Edit held))
+unfoldable pub memoryBack : Kind → ℕ → Held → Reading
+memoryBack kind controller held = tested (heldTest kind held ∷ []) reading.Refused (backOf kind controller (bytesIn kind panel Edit held))
 
-unfoldable pub backNumber : ℕ → Held → ℕ
-backNumber controller held = readingNumber (memoryBack controller held)
+-- and before it 32 for a number that is no kind
+unfoldable pub numberBack : ℕ → ℕ → Held → Reading
+numberBack kind controller held = tested (kindTest kind ∷ []) reading.Refused (memoryBack (kindOf kind) controller held)
+
+unfoldable pub backNumber : ℕ → ℕ → Held → ℕ
+backNumber kind controller held = readingNumber (numberBack kind controller held)

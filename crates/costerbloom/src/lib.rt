@@ -5,10 +5,10 @@ ghost use mathlib.Core.Path.{_≡_};
 ghost use Rattle.ground.specs.Calls.{left};
 ghost use Rattle.programs.specs.Held.{heldOf};
 ghost use Rattle.sockets.specs.Box.{took};
-ghost use Rattle.costerbloom.specs.Numbers.{settingsOf, takeNumbers, wholeNumbers, scaleNumber, memoryBack, backNumber};
+ghost use Rattle.costerbloom.specs.Numbers.{settingsOf, takeNumbers, wholeNumbers, numberScale, scaleNumber, memoryBack, numberBack, backNumber};
 use controls::Reading;
 use framing::Receiver;
-use programs::PROGRAM;
+use kinds::Kind;
 
 // What the byte call gives back in numbers: the receiver for the next one, and the answer.
 struct Handed {
@@ -22,6 +22,7 @@ pub extern "C" fn costerbloom_take(
     receiver: &mut Receiver,
     socket: u32,
     byte: u8,
+    kind: u32,
     channel: u8,
     omni: u8,
     revision0: u8,
@@ -32,12 +33,13 @@ pub extern "C" fn costerbloom_take(
     receive: &mut [u8],
     reply: &mut [u8],
 ) -> u64
-    ensures { λ r. ⌜ took (now (receiver .exit)) r (heldOf (now (memory .exit))) (now (receive .exit)) (now (reply .exit)) ≡ takeNumbers (settingsOf channel omni revision0 revision1 revision2 revision3) socket (now (receiver .entry)) byte (heldOf (now (memory .entry))) (now (receive .entry)) (now (reply .entry)) ⌝ }
+    ensures { λ r. ⌜ took (now (receiver .exit)) r (heldOf (now (memory .exit))) (now (receive .exit)) (now (reply .exit)) ≡ takeNumbers kind (settingsOf channel omni revision0 revision1 revision2 revision3) socket (now (receiver .entry)) byte (heldOf (now (memory .entry))) (now (receive .entry)) (now (reply .entry)) ⌝ }
 {
     let handed = take(
         *receiver,
         socket,
         byte,
+        kind,
         channel,
         omni,
         revision0,
@@ -56,6 +58,7 @@ fn take(
     receiver: Receiver,
     socket: u32,
     byte: u8,
+    kind: u32,
     channel: u8,
     omni: u8,
     revision0: u8,
@@ -66,10 +69,19 @@ fn take(
     receive: &mut [u8],
     reply: &mut [u8],
 ) -> Handed
-    ensures { λ r. ⌜ took (r .receiver) (r .answer) (heldOf (now (memory .exit))) (now (receive .exit)) (now (reply .exit)) ≡ takeNumbers (settingsOf channel omni revision0 revision1 revision2 revision3) socket receiver byte (heldOf (now (memory .entry))) (now (receive .entry)) (now (reply .entry)) ⌝ }
+    ensures { λ r. ⌜ took (r .receiver) (r .answer) (heldOf (now (memory .exit))) (now (receive .exit)) (now (reply .exit)) ≡ takeNumbers kind (settingsOf channel omni revision0 revision1 revision2 revision3) socket receiver byte (heldOf (now (memory .entry))) (now (receive .entry)) (now (reply .entry)) ⌝ }
 {
     let settings = numbers::settings(channel, omni, revision0, revision1, revision2, revision3);
-    let took = podbox::take_byte(receiver, socket, byte, settings, memory, receive, reply);
+    let took = podbox::take_byte(
+        receiver,
+        socket,
+        byte,
+        kind,
+        settings,
+        memory,
+        receive,
+        reply,
+    );
     let next = took.receiver;
     let answer = took.answer;
     Handed {
@@ -82,6 +94,7 @@ fn take(
 #[no_mangle]
 pub extern "C" fn costerbloom_whole(
     message: &[u8],
+    kind: u32,
     channel: u8,
     omni: u8,
     revision0: u8,
@@ -91,39 +104,58 @@ pub extern "C" fn costerbloom_whole(
     memory: &mut [u8],
     reply: &mut [u8],
 ) -> u64
-    ensures { λ r. ⌜ left r (heldOf (now (memory .exit))) (now (reply .exit)) ≡ wholeNumbers (settingsOf channel omni revision0 revision1 revision2 revision3) (now (message .entry)) (heldOf (now (memory .entry))) (now (reply .entry)) ⌝ }
+    ensures { λ r. ⌜ left r (heldOf (now (memory .exit))) (now (reply .exit)) ≡ wholeNumbers kind (settingsOf channel omni revision0 revision1 revision2 revision3) (now (message .entry)) (heldOf (now (memory .entry))) (now (reply .entry)) ⌝ }
 {
     let settings = numbers::settings(channel, omni, revision0, revision1, revision2, revision3);
-    let answer = podbox::whole_message(message, settings, memory, reply);
+    let answer = podbox::whole_message(message, kind, settings, memory, reply);
     numbers::packed(answer)
 }
 
 // The controller's number for a value.
 #[no_mangle]
-pub extern "C" fn costerbloom_scale(controller: u32, value: u32) -> u32
-    ensures { λ r. ⌜ r ≡ scaleNumber controller value ⌝ }
+pub extern "C" fn costerbloom_scale(controller: u32, value: u32, kind: u32) -> u32
+    ensures { λ r. ⌜ r ≡ scaleNumber kind controller value ⌝ }
 {
-    let reading = controls::scale(controller, value);
-    numbers::reading_number(reading)
-}
-
-// The value that the edit buffer shows for a controller.
-#[no_mangle]
-pub extern "C" fn costerbloom_back(memory: &[u8], controller: u32) -> u32
-    ensures { λ r. ⌜ r ≡ backNumber controller (heldOf (now (memory .entry))) ⌝ }
-{
-    let reading = back(memory, controller);
+    let reading = scale(controller, value, kind);
     numbers::reading_number(reading)
 }
 
 // The same, told apart by an enum.
-fn back(memory: &[u8], controller: u32) -> Reading
-    ensures { λ r. ⌜ r ≡ memoryBack controller (heldOf (now (memory .entry))) ⌝ }
+fn scale(controller: u32, value: u32, kind: u32) -> Reading
+    ensures { λ r. ⌜ r ≡ numberScale kind controller value ⌝ }
 {
-    if memory.len() < podbox::MEMORY {
+    if kinds::is_kind(kind) {
+        return controls::scale(controller, value, kinds::kind_of(kind));
+    }
+    Reading::Refused(32)
+}
+
+// The value that the edit buffer shows for a controller.
+#[no_mangle]
+pub extern "C" fn costerbloom_back(controller: u32, kind: u32, memory: &[u8]) -> u32
+    ensures { λ r. ⌜ r ≡ backNumber kind controller (heldOf (now (memory .entry))) ⌝ }
+{
+    let reading = back(controller, kind, memory);
+    numbers::reading_number(reading)
+}
+
+// The same, told apart by an enum.
+fn back(controller: u32, kind: u32, memory: &[u8]) -> Reading
+    ensures { λ r. ⌜ r ≡ numberBack kind controller (heldOf (now (memory .entry))) ⌝ }
+{
+    if kinds::is_kind(kind) {
+        return shown(controller, kinds::kind_of(kind), memory);
+    }
+    Reading::Refused(32)
+}
+
+fn shown(controller: u32, kind: Kind, memory: &[u8]) -> Reading
+    ensures { λ r. ⌜ r ≡ memoryBack kind controller (heldOf (now (memory .entry))) ⌝ }
+{
+    if memory.len() < programs::memory_size(kind) {
         return Reading::Refused(30);
     }
-    let place = programs::edit_place(PROGRAM as u8, podbox::PANEL);
-    let end = place + PROGRAM;
-    controls::show_back(controller, &memory[place..end])
+    let place = programs::edit_place(kind, podbox::PANEL);
+    let end = place + kinds::size(kind) as usize;
+    controls::show_back(controller, kind, &memory[place..end])
 }

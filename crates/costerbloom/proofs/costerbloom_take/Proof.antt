@@ -95,10 +95,10 @@ module _ {M : Type 1} (𝓤 : URA M) (H : Heap 𝓤) (A : Atoms 𝓤) (at-mem : 
 
       -- the machine values of the parameters
       abbrev spelled : Spells rows
-      spelled = (ptr-vals, (uint-vals w32, (uint-vals w8, (uint-vals w8, (uint-vals w8, (uint-vals w8, (uint-vals w8, (uint-vals w8, (uint-vals w8, (slice-vals, (slice-vals, (slice-vals, tt))))))))))))
+      spelled = (ptr-vals, (uint-vals w32, (uint-vals w8, (uint-vals w32, (uint-vals w8, (uint-vals w8, (uint-vals w8, (uint-vals w8, (uint-vals w8, (uint-vals w8, (slice-vals, (slice-vals, (slice-vals, tt)))))))))))))
 
       tells : Tellss rows (Ises rows) spelled
-      tells = (mut-tells (named 0) (κs .0) T.the-row, (uint-tells w32, (uint-tells w8, (uint-tells w8, (uint-tells w8, (uint-tells w8, (uint-tells w8, (uint-tells w8, (uint-tells w8, (mut-slice-tells (named 1) (κs .1 .0) u8, (mut-slice-tells (named 2) (κs .1 .1 .0) u8, (mut-slice-tells (named 3) (κs .1 .1 .1 .0) u8, tt))))))))))))
+      tells = (mut-tells (named 0) (κs .0) T.the-row, (uint-tells w32, (uint-tells w8, (uint-tells w32, (uint-tells w8, (uint-tells w8, (uint-tells w8, (uint-tells w8, (uint-tells w8, (uint-tells w8, (mut-slice-tells (named 1) (κs .1 .0) u8, (mut-slice-tells (named 2) (κs .1 .1 .0) u8, (mut-slice-tells (named 3) (κs .1 .1 .1 .0) u8, tt)))))))))))))
 
       abbrev values : Vals this.signature κs
       values = valss rows spelled a
@@ -132,21 +132,22 @@ module _ {M : Type 1} (𝓤 : URA M) (H : Heap 𝓤) (A : Atoms 𝓤) (at-mem : 
       walk vs = said 𝓤 H A this.signature κs qs spelled tells a Walked vs (λ are. qed W ((‵ (flft (κs .0) (qs .0)) ⊛ tokens) ∷ ‵ (owns rows a values) ∷ []) ∵
           enter ! _ _ _ _ _ $
           alloc1 ! (λ _. alloc1 ! (λ _. alloc1 ! (λ _. alloc1 ! (λ _. alloc1 ! (λ _. alloc1 ! (λ _. alloc1 ! (λ _. alloc1 ! (λ _. alloc1 ! (λ _. alloc1 ! (λ _.
-          alloc1 ! (λ _. alloc1 ! (λ _. alloc1 ! (λ _. alloc1 ! (λ l. alloc1 ! (λ _. alloc1 ! (λ _. alloc1 ! (λ _. alloc1 ! (λ _. alloc1 ! (λ _. alloc1 ! (λ _.
-          alloc1 ! (λ _.
+          alloc1 ! (λ _. alloc1 ! (λ _. alloc1 ! (λ _. alloc1 ! (λ _. alloc1 ! (λ l. alloc1 ! (λ _. alloc1 ! (λ _. alloc1 ! (λ _. alloc1 ! (λ _. alloc1 ! (λ _.
+          alloc1 ! (λ _. alloc1 ! (λ _.
           alloc0 ! $ params1 ! $
-          pass1 ! (init ! 38 refl (tt, tt)) $ pass1 ! (init ! 36 refl (tt, record { fits = are .1 .0 .1 })) $
-          pass1 ! (init ! 34 refl (tt, record { fits = are .1 .1 .0 .1 })) $ pass1 ! (init ! 32 refl (tt, record { fits = are .1 .1 .1 .0 .1 })) $
-          pass1 ! (init ! 30 refl (tt, record { fits = are .1 .1 .1 .1 .0 .1 })) $ pass1 ! (init ! 28 refl (tt, record { fits = are .1 .1 .1 .1 .1 .0 .1 })) $
-          pass1 ! (init ! 26 refl (tt, record { fits = are .1 .1 .1 .1 .1 .1 .0 .1 })) $
-          pass1 ! (init ! 24 refl (tt, record { fits = are .1 .1 .1 .1 .1 .1 .1 .0 .1 })) $
-          pass1 ! (init ! 22 refl (tt, record { fits = are .1 .1 .1 .1 .1 .1 .1 .1 .0 .1 })) $
-          pass1 ! (init ! 20 refl (tt, (tt, (record { fits = are .1 .1 .1 .1 .1 .1 .1 .1 .1 .0 .0 .1 .0 }, tt)))) $
-          pass1 ! (init ! 18 refl (tt, (tt, (record { fits = are .1 .1 .1 .1 .1 .1 .1 .1 .1 .1 .0 .0 .1 .0 }, tt)))) $
-          pass1 ! (init ! 16 refl (tt, (tt, (record { fits = are .1 .1 .1 .1 .1 .1 .1 .1 .1 .1 .1 .0 .0 .1 .0 }, tt)))) $
+          pass1 ! (init ! 40 refl (tt, tt)) $ pass1 ! (init ! 38 refl (tt, record { fits = are .1 .0 .1 })) $
+          pass1 ! (init ! 36 refl (tt, record { fits = are .1 .1 .0 .1 })) $ pass1 ! (init ! 34 refl (tt, record { fits = are .1 .1 .1 .0 .1 })) $
+          pass1 ! (init ! 32 refl (tt, record { fits = are .1 .1 .1 .1 .0 .1 })) $ pass1 ! (init ! 30 refl (tt, record { fits = are .1 .1 .1 .1 .1 .0 .1 })) $
+          pass1 ! (init ! 28 refl (tt, record { fits = are .1 .1 .1 .1 .1 .1 .0 .1 })) $
+          pass1 ! (init ! 26 refl (tt, record { fits = are .1 .1 .1 .1 .1 .1 .1 .0 .1 })) $
+          pass1 ! (init ! 24 refl (tt, record { fits = are .1 .1 .1 .1 .1 .1 .1 .1 .0 .1 })) $
+          pass1 ! (init ! 22 refl (tt, record { fits = are .1 .1 .1 .1 .1 .1 .1 .1 .1 .0 .1 })) $
+          pass1 ! (init ! 20 refl (tt, (tt, (record { fits = are .1 .1 .1 .1 .1 .1 .1 .1 .1 .1 .0 .0 .1 .0 }, tt)))) $
+          pass1 ! (init ! 18 refl (tt, (tt, (record { fits = are .1 .1 .1 .1 .1 .1 .1 .1 .1 .1 .1 .0 .0 .1 .0 }, tt)))) $
+          pass1 ! (init ! 16 refl (tt, (tt, (record { fits = are .1 .1 .1 .1 .1 .1 .1 .1 .1 .1 .1 .1 .0 .0 .1 .0 }, tt)))) $
           pass0 ! $
           -- the locals, each with its end behind it: first the result, the reference, what `take` returns and the receiver that it is called on
-          move ! (42 ∷ 43 ∷ 40 ∷ 41 ∷ 38 ∷ 39 ∷ 14 ∷ 15 ∷ 12 ∷ 13 ∷ []) $
+          move ! (44 ∷ 45 ∷ 42 ∷ 43 ∷ 40 ∷ 41 ∷ 14 ∷ 15 ∷ 12 ∷ 13 ∷ []) $
           -- the borrow is opened
           move ! (1 ∷ []) $ fsplit ! $ fsplit3 ! $ drop ! $ move ! (3 ∷ []) $ split ! $ move ! (2 ∷ 3 ∷ 0 ∷ []) $ opens ! tt T.the-row _ _ (λ us.
           spelt ! T.the-row (Is T.the-row) (shows 𝓤 H A T.the-row) (LL.vals T.the-type T′.the-laws) (LL.tells T.the-type T′.the-laws)
@@ -157,22 +158,23 @@ module _ {M : Type 1} (𝓤 : URA M) (H : Heap 𝓤) (A : Atoms 𝓤) (at-mem : 
           (init ! 13 refl (LL.lawful T.the-type T′.the-laws 𝓤 H A W .typed receiver _ was .0)) $
           assigns ! (addr ! (from ! (fld ! refl (hop ! (look-in ! 31 (sub ! 0 refl (whole !))) (stop !))))) (from ! (stop !)) (init ! 25 refl (tt, tt)) $
           assigns ! (agg ! (and-then ! (load ! (from ! (stop !)) (look ! 25 refl)) (and-then ! (load ! (from ! (fld ! refl (stop !))) (look-in ! 31 (sub ! 1 refl (whole !)))) (no-more !)))) (from ! (stop !))
-          (init ! 23 refl (tt, (tt, (record { fits = are .1 .1 .1 .1 .1 .1 .1 .1 .1 .0 .0 .1 .0 }, tt)))) $
+          (init ! 23 refl (tt, (tt, (record { fits = are .1 .1 .1 .1 .1 .1 .1 .1 .1 .1 .0 .0 .1 .0 }, tt)))) $
           assigns ! (addr ! (from ! (fld ! refl (hop ! (look-in ! 29 (sub ! 0 refl (whole !))) (stop !))))) (from ! (stop !)) (init ! 21 refl (tt, tt)) $
           assigns ! (agg ! (and-then ! (load ! (from ! (stop !)) (look ! 21 refl)) (and-then ! (load ! (from ! (fld ! refl (stop !))) (look-in ! 29 (sub ! 1 refl (whole !)))) (no-more !)))) (from ! (stop !))
-          (init ! 19 refl (tt, (tt, (record { fits = are .1 .1 .1 .1 .1 .1 .1 .1 .1 .1 .0 .0 .1 .0 }, tt)))) $
+          (init ! 19 refl (tt, (tt, (record { fits = are .1 .1 .1 .1 .1 .1 .1 .1 .1 .1 .1 .0 .0 .1 .0 }, tt)))) $
           assigns ! (addr ! (from ! (fld ! refl (hop ! (look-in ! 27 (sub ! 0 refl (whole !))) (stop !))))) (from ! (stop !)) (init ! 17 refl (tt, tt)) $
           assigns ! (agg ! (and-then ! (load ! (from ! (stop !)) (look ! 17 refl)) (and-then ! (load ! (from ! (fld ! refl (stop !))) (look-in ! 27 (sub ! 1 refl (whole !)))) (no-more !)))) (from ! (stop !))
-          (init ! 15 refl (tt, (tt, (record { fits = are .1 .1 .1 .1 .1 .1 .1 .1 .1 .1 .1 .0 .0 .1 .0 }, tt)))) $
+          (init ! 15 refl (tt, (tt, (record { fits = are .1 .1 .1 .1 .1 .1 .1 .1 .1 .1 .1 .1 .0 .0 .1 .0 }, tt)))) $
           -- the call, with 5 result, 7 reference, 9 returned, 11 receiver, 13 other locals
           move ! (0 ∷ 6 ∷ []) $ fjoin ! $ move ! (5 ∷ 0 ∷ []) $ join ! $ nothing ! $ move ! (1 ∷ 0 ∷ []) $ join ! $
           use1 W (raw (Callee .pre to-call)) (id⊢ 𝓤 _) $ calls-at ! (fmOf 𝓤 H (W .laws) 𝓣) Callee known to-call
-          (and-then ! (load ! (from ! (stop !)) (look ! 11 refl)) (and-then ! (load ! (from ! (stop !)) (look ! 45 refl))
-          (and-then ! (load ! (from ! (stop !)) (look ! 43 refl)) (and-then ! (load ! (from ! (stop !)) (look ! 41 refl))
-          (and-then ! (load ! (from ! (stop !)) (look ! 39 refl)) (and-then ! (load ! (from ! (stop !)) (look ! 37 refl))
-          (and-then ! (load ! (from ! (stop !)) (look ! 35 refl)) (and-then ! (load ! (from ! (stop !)) (look ! 33 refl))
-          (and-then ! (load ! (from ! (stop !)) (look ! 31 refl)) (and-then ! (load ! (from ! (stop !)) (look ! 21 refl))
-          (and-then ! (load ! (from ! (stop !)) (look ! 17 refl)) (and-then ! (load ! (from ! (stop !)) (look ! 13 refl)) (no-more !))))))))))))) (λ w.
+          (and-then ! (load ! (from ! (stop !)) (look ! 11 refl)) (and-then ! (load ! (from ! (stop !)) (look ! 47 refl))
+          (and-then ! (load ! (from ! (stop !)) (look ! 45 refl)) (and-then ! (load ! (from ! (stop !)) (look ! 43 refl))
+          (and-then ! (load ! (from ! (stop !)) (look ! 41 refl)) (and-then ! (load ! (from ! (stop !)) (look ! 39 refl))
+          (and-then ! (load ! (from ! (stop !)) (look ! 37 refl)) (and-then ! (load ! (from ! (stop !)) (look ! 35 refl))
+          (and-then ! (load ! (from ! (stop !)) (look ! 33 refl)) (and-then ! (load ! (from ! (stop !)) (look ! 31 refl))
+          (and-then ! (load ! (from ! (stop !)) (look ! 21 refl)) (and-then ! (load ! (from ! (stop !)) (look ! 17 refl))
+          (and-then ! (load ! (from ! (stop !)) (look ! 13 refl)) (no-more !)))))))))))))) (λ w.
           use1 W (GivenBack w) (id⊢ 𝓤 _) $ await ! tt $ pick ! (λ r. split ! $ move ! (1 ∷ []) $ pick ! (λ zs. split ! $ fsplit ! $ move ! (3 ∷ []) $ split ! $
           move ! (1 ∷ []) $ peeks ! U.the-row (Is U.the-row) (shows 𝓤 H A U.the-row) r (w ∷ []) (λ is.
           -- held: 0 own, 1 tokens, 3 last lists, 4 promise, 5 cell, 6 borrow, 7 value, 8 name; 9 result, 11 reference, 13 returned
@@ -188,18 +190,18 @@ module _ {M : Type 1} (𝓤 : URA M) (H : Heap 𝓤) (A : Atoms 𝓤) (at-mem : 
           closes ! tt T.the-row (r .receiver) (mach (r .receiver) ∷ []) _ _ $ use1 W (‵ (last (r .receiver))) (W .names .obs-res _ _) $
           -- held: 0 last value, 2 token, 4 tokens, 6 last lists, 7 promise; 8 result, 10 reference, 12 returned, 14 receiver, 16 other locals
           returns ! (look ! 8 refl) $
-          forget ! 8 refl $ forget ! 10 refl $ forget ! 48 refl $ forget ! 46 refl $ forget ! 44 refl $ forget ! 42 refl $ forget ! 40 refl $ forget ! 38 refl $
-          forget ! 36 refl $ forget ! 34 refl $ forget ! 32 refl $ forget ! 30 refl $ forget ! 28 refl $ forget ! 12 refl $ forget ! 14 refl $
-          forget ! 26 refl $ forget ! 24 refl $ forget ! 22 refl $ forget ! 20 refl $ forget ! 18 refl $ forget ! 16 refl $
-          move ! (8 ∷ 9 ∷ 10 ∷ 11 ∷ 48 ∷ 49 ∷ 46 ∷ 47 ∷ 44 ∷ 45 ∷ 42 ∷ 43 ∷ 40 ∷ 41 ∷ 38 ∷ 39 ∷ 36 ∷ 37 ∷ 34 ∷ 35 ∷ 32 ∷ 33 ∷ 30 ∷ 31 ∷ 28 ∷ 29 ∷ 12 ∷ 13 ∷ 14 ∷
-          15 ∷ 26 ∷ 27 ∷ 24 ∷ 25 ∷ 22 ∷ 23 ∷ 20 ∷ 21 ∷ 18 ∷ 19 ∷ 16 ∷ 17 ∷ []) $
+          forget ! 8 refl $ forget ! 10 refl $ forget ! 50 refl $ forget ! 48 refl $ forget ! 46 refl $ forget ! 44 refl $ forget ! 42 refl $ forget ! 40 refl $
+          forget ! 38 refl $ forget ! 36 refl $ forget ! 34 refl $ forget ! 32 refl $ forget ! 30 refl $ forget ! 28 refl $ forget ! 12 refl $
+          forget ! 14 refl $ forget ! 26 refl $ forget ! 24 refl $ forget ! 22 refl $ forget ! 20 refl $ forget ! 18 refl $ forget ! 16 refl $
+          move ! (8 ∷ 9 ∷ 10 ∷ 11 ∷ 50 ∷ 51 ∷ 48 ∷ 49 ∷ 46 ∷ 47 ∷ 44 ∷ 45 ∷ 42 ∷ 43 ∷ 40 ∷ 41 ∷ 38 ∷ 39 ∷ 36 ∷ 37 ∷ 34 ∷ 35 ∷ 32 ∷ 33 ∷ 30 ∷ 31 ∷ 28 ∷ 29 ∷ 12 ∷
+          13 ∷ 14 ∷ 15 ∷ 26 ∷ 27 ∷ 24 ∷ 25 ∷ 22 ∷ 23 ∷ 20 ∷ 21 ∷ 18 ∷ 19 ∷ 16 ∷ 17 ∷ []) $
           free1 ! $ free1 ! $ free1 ! $ free1 ! $ free1 ! $ free1 ! $ free1 ! $ free1 ! $ free1 ! $ free1 ! $ free1 ! $ free1 ! $ free1 ! $ free1 ! $ free1 ! $
-          free1 ! $ free1 ! $ free1 ! $ free1 ! $ free1 ! $ free1 ! $
+          free1 ! $ free1 ! $ free1 ! $ free1 ! $ free1 ! $ free1 ! $ free1 ! $
           free0 ! $
           -- the exit
           keep ! (2 ∷ 4 ∷ 0 ∷ 6 ∷ 7 ∷ []) $ join ! $ updating ! $ at-once ! $ show ! (Answers (vint w64 (r .answer))) (r .answer) $
           owned ! u64 (Is u64) (uint-makes 𝓤 H A W w64) (r .answer) _ (refl, answer-fits r w is) $ move ! (1 ∷ 0 ∷ []) $ join ! $ frame ! $
-          show ! (Ends (r .answer)) (r .receiver, zs .1) $ fjoin ! $ done !))))))))))))))))))))))))))))
+          show ! (Ends (r .answer)) (r .receiver, zs .1) $ fjoin ! $ done !)))))))))))))))))))))))))))))
 
     meets : Triple 𝓤 (WpFn 𝓤 H (𝓣 .C) (𝓣 .Λ) code.function) Own
     meets y = via 𝓤 _ (fst∗ 𝓤 _ (emp 𝓤)) (walk (y .0 .0) (y .0 .1) (y .0 .3) (y .0 .4))
