@@ -11,17 +11,17 @@ use Rattle.sockets.proofs.OneResult.{took-one}
 use Rattle.sysex.specs.declared.Settings.{Settings}
 use Rattle.costerbloom.specs.Numbers.{takeNumbers, wholeNumbers, scaleNumber, backNumber}
 
-pub costerbloom-take-one : (kind : ℕ) (settings : Settings) (socket : ℕ) (receiver : Receiver) (byte : ℕ) (held : Held) (receive reply : List ℕ) (r s : Receiver) (a b : ℕ) (m n : Held) (x y o p : List ℕ)
-    → took r a m x o ≡ takeNumbers kind settings socket receiver byte held receive reply → took s b n y p ≡ takeNumbers kind settings socket receiver byte held receive reply
+pub costerbloom-take-one : (kindNumber : ℕ) (settings : Settings) (socket : ℕ) (receiver : Receiver) (byte : ℕ) (held : Held) (receive reply : List ℕ) (r s : Receiver) (a b : ℕ) (m n : Held) (x y o p : List ℕ)
+    → took r a m x o ≡ takeNumbers kindNumber settings socket receiver byte held receive reply → took s b n y p ≡ takeNumbers kindNumber settings socket receiver byte held receive reply
     → (r ≡ s) × (a ≡ b) × (m ≡ n) × (x ≡ y) × (o ≡ p)
-costerbloom-take-one kind settings socket receiver byte held receive reply r s a b m n x y o p = took-one
+costerbloom-take-one kindNumber settings socket receiver byte held receive reply r s a b m n x y o p = took-one
 
-pub costerbloom-whole-one : (kind : ℕ) (settings : Settings) (message : List ℕ) (held : Held) (reply : List ℕ) (a b : ℕ) (m n : Held) (x y : List ℕ)
-    → left a m x ≡ wholeNumbers kind settings message held reply → left b n y ≡ wholeNumbers kind settings message held reply → (a ≡ b) × (m ≡ n) × (x ≡ y)
-costerbloom-whole-one kind settings message held reply a b m n x y = left-one
+pub costerbloom-whole-one : (kindNumber : ℕ) (settings : Settings) (message : List ℕ) (held : Held) (reply : List ℕ) (a b : ℕ) (m n : Held) (x y : List ℕ)
+    → left a m x ≡ wholeNumbers kindNumber settings message held reply → left b n y ≡ wholeNumbers kindNumber settings message held reply → (a ≡ b) × (m ≡ n) × (x ≡ y)
+costerbloom-whole-one kindNumber settings message held reply a b m n x y = left-one
 
-pub costerbloom-scale-one : (kind controller value : ℕ) (r s : ℕ) → r ≡ scaleNumber kind controller value → s ≡ scaleNumber kind controller value → r ≡ s
-costerbloom-scale-one kind controller value r s = one
+pub costerbloom-scale-one : (kindNumber controller value : ℕ) (r s : ℕ) → r ≡ scaleNumber kindNumber controller value → s ≡ scaleNumber kindNumber controller value → r ≡ s
+costerbloom-scale-one kindNumber controller value r s = one
 
-pub costerbloom-back-one : (kind controller : ℕ) (held : Held) (r s : ℕ) → r ≡ backNumber kind controller held → s ≡ backNumber kind controller held → r ≡ s
-costerbloom-back-one kind controller held r s = one
+pub costerbloom-back-one : (kindNumber controller : ℕ) (held : Held) (r s : ℕ) → r ≡ backNumber kindNumber controller held → s ≡ backNumber kindNumber controller held → r ≡ s
+costerbloom-back-one kindNumber controller held r s = one

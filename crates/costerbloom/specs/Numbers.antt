@@ -38,20 +38,20 @@ abbrev pub tookNumbers : Took Held Answer → Took Held ℕ
 tookNumbers t = took (t .receiver) (packed (t .answer)) (t .held) (t .receive) (t .reply)
 
 unfoldable pub takeNumbers : ℕ → Settings → ℕ → Receiver → ℕ → Held → List ℕ → List ℕ → Took Held ℕ
-takeNumbers kind settings socket receiver byte held receive reply = tookNumbers (takeOf kind settings socket receiver byte held receive reply)
+takeNumbers kindNumber settings socket receiver byte held receive reply = tookNumbers (takeOf kindNumber settings socket receiver byte held receive reply)
 
 abbrev pub leftNumbers : Left Held Answer → Left Held ℕ
 leftNumbers l = left (packed (l .answer)) (l .held) (l .reply)
 
 unfoldable pub wholeNumbers : ℕ → Settings → List ℕ → Held → List ℕ → Left Held ℕ
-wholeNumbers kind settings message held reply = leftNumbers (wholeOf kind settings message held reply)
+wholeNumbers kindNumber settings message held reply = leftNumbers (wholeOf kindNumber settings message held reply)
 
 -- "Scaling may be asked directly": 32 for a number that is no kind, then what the kind's controllers say
 unfoldable pub numberScale : ℕ → ℕ → ℕ → Reading
-numberScale kind controller value = tested (kindTest kind ∷ []) reading.Refused (scaleOf (kindOf kind) controller value)
+numberScale kindNumber controller value = tested (kindTest kindNumber ∷ []) reading.Refused (scaleOf (kindOf kindNumber) controller value)
 
 unfoldable pub scaleNumber : ℕ → ℕ → ℕ → ℕ
-scaleNumber kind controller value = readingNumber (numberScale kind controller value)
+scaleNumber kindNumber controller value = readingNumber (numberScale kindNumber controller value)
 
 -- "Back, from the edit buffer", the panel's, where memory is lent: 30 for a short one
 unfoldable pub memoryBack : Kind → ℕ → Held → Reading
@@ -59,7 +59,7 @@ memoryBack kind controller held = tested (heldTest kind held ∷ []) reading.Ref
 
 -- and before it 32 for a number that is no kind
 unfoldable pub numberBack : ℕ → ℕ → Held → Reading
-numberBack kind controller held = tested (kindTest kind ∷ []) reading.Refused (memoryBack (kindOf kind) controller held)
+numberBack kindNumber controller held = tested (kindTest kindNumber ∷ []) reading.Refused (memoryBack (kindOf kindNumber) controller held)
 
 unfoldable pub backNumber : ℕ → ℕ → Held → ℕ
-backNumber kind controller held = readingNumber (numberBack kind controller held)
+backNumber kindNumber controller held = readingNumber (numberBack kindNumber controller held)

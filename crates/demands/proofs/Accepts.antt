@@ -11,6 +11,8 @@ use Rattle.ground.specs.Lists.{allAtMost}
 use Rattle.halves.proofs.Laws.{length-split, split-halves}
 use Rattle.sysex.specs.declared.Settings.{Settings}
 use Rattle.sysex.specs.declared.Order.the-variants.{Identify}
+use Rattle.kinds.specs.declared.Kind.{Kind}
+use Rattle.kinds.specs.Kinds.{sizeOf, deviceOf}
 use Rattle.programs.specs.Memory.{lastProgram, allSize}
 use Rattle.programs.specs.Held.{Target, One, Edit, All, countFor}
 use Rattle.sysex.specs.Forms.{requestBody, dumpBody, identityBody, bodyLength, isIdentity, isOurChannel}
@@ -26,42 +28,48 @@ no-identity : (rest : List ℕ) → isIdentity (0xF0 ∷ 0x00 ∷ rest) ≡ fals
 unfolding isIdentity
 no-identity rest = rw (and-false (leb (getD rest 0 0) 0x7F)) (and-false (eqb (suc (suc (length rest))) 5))
 
-module _ (size : ℕ) (settings : Settings) where
-  pub request-judged : (t : Target) → There t → judgeOf size settings (requestBody t) ≡ sendOrder t
+module _ (kind : Kind) (settings : Settings) where
+  same : eqb (deviceOf kind) (deviceOf kind) ≡ true
+  same = eq-eqb (deviceOf kind) (deviceOf kind) refl
+
+  pub request-judged : (t : Target) → There t → judgeOf kind settings (requestBody kind t) ≡ sendOrder t
   unfolding judgeOf hasForm furtherTests bodyLength hasProgram bodyOrder orderOf
-  request-judged (One p) h = rw (no-identity (drop 2 (requestBody (One p))), le-leb p lastProgram h)
-  request-judged Edit h = rw (no-identity (drop 2 (requestBody Edit)))
-  request-judged All h = rw (no-identity (drop 2 (requestBody All)))
+  request-judged (One p) h = rw (no-identity (drop 2 (requestBody kind (One p))), same, le-leb p lastProgram h)
+  request-judged Edit h = rw (no-identity (drop 2 (requestBody kind Edit)), same)
+  request-judged All h = rw (no-identity (drop 2 (requestBody kind All)), same)
 
   module _ (bytes : List ℕ) (low : allAtMost 0xFF bytes ≡ true) where
-    pub dump-judged : (t : Target) → There t → length bytes ≡ countFor size t → judgeOf size settings (dumpBody t bytes) ≡ storeOrder t
+    pub dump-judged : (t : Target) → There t → length bytes ≡ countFor kind t → judgeOf kind settings (dumpBody kind t bytes) ≡ storeOrder t
     unfolding judgeOf hasForm furtherTests bodyLength hasProgram bodyOrder orderOf
     dump-judged (One p) h e =
         let l = length-split bytes in
         rw (
-          no-identity (drop 2 (dumpBody (One p) bytes)),
-          le-leb 7 (length (dumpBody (One p) bytes)) (omega arith),
-          eq-eqb (length (dumpBody (One p) bytes)) (9 + 2 * size) (omega arith),
+          no-identity (drop 2 (dumpBody kind (One p) bytes)),
+          same,
+          le-leb 7 (length (dumpBody kind (One p) bytes)) (omega arith),
+          eq-eqb (length (dumpBody kind (One p) bytes)) (9 + 2 * sizeOf kind) (omega arith),
           le-leb p lastProgram h,
           split-halves bytes low,
         )
     dump-judged Edit h e =
         let l = length-split bytes in
         rw (
-          no-identity (drop 2 (dumpBody Edit bytes)),
-          le-leb 7 (length (dumpBody Edit bytes)) (omega arith),
-          eq-eqb (length (dumpBody Edit bytes)) (8 + 2 * size) (omega arith),
+          no-identity (drop 2 (dumpBody kind Edit bytes)),
+          same,
+          le-leb 7 (length (dumpBody kind Edit bytes)) (omega arith),
+          eq-eqb (length (dumpBody kind Edit bytes)) (8 + 2 * sizeOf kind) (omega arith),
           split-halves bytes low,
         )
     dump-judged All h e =
         let l = length-split bytes in
         rw (
-          no-identity (drop 2 (dumpBody All bytes)),
-          le-leb 7 (length (dumpBody All bytes)) (omega arith),
-          eq-eqb (length (dumpBody All bytes)) (8 + 2 * allSize size) (omega arith),
+          no-identity (drop 2 (dumpBody kind All bytes)),
+          same,
+          le-leb 7 (length (dumpBody kind All bytes)) (omega arith),
+          eq-eqb (length (dumpBody kind All bytes)) (8 + 2 * allSize kind) (omega arith),
           split-halves bytes low,
         )
 
-  pub identity-judged : (cc : ℕ) → cc ≤ 0x7F → isOurChannel settings cc ≡ true → judgeOf size settings (identityBody cc) ≡ Identify cc
+  pub identity-judged : (cc : ℕ) → cc ≤ 0x7F → isOurChannel settings cc ≡ true → judgeOf kind settings (identityBody cc) ≡ Identify cc
   unfolding judgeOf hasForm furtherTests bodyOrder isIdentity
   identity-judged cc h o = rw (le-leb cc 0x7F h, eq-eqb cc cc refl, o)

@@ -14,21 +14,21 @@ use Rattle.costerbloom.specs.Numbers.{takeNumbers, wholeNumbers}
 use Rattle.demands.specs.Told.{Told}
 use Rattle.demands.proofs.ToldApart.{take-told, whole-told}
 
-pub take-as-box : (settings : Settings) (socket : ℕ) (receiver : Receiver) (byte : ℕ) (held : Held) (receive reply : List ℕ) (r : Receiver) (n : ℕ) (m : Held) (x o : List ℕ)
-    → took r n m x o ≡ takeNumbers settings socket receiver byte held receive reply
-    → (answer : Answer) × (took r answer m x o ≡ takeOf settings socket receiver byte held receive reply) × Told answer n
+pub take-as-box : (kindNumber : ℕ) (settings : Settings) (socket : ℕ) (receiver : Receiver) (byte : ℕ) (held : Held) (receive reply : List ℕ) (r : Receiver) (n : ℕ) (m : Held) (x o : List ℕ)
+    → took r n m x o ≡ takeNumbers kindNumber settings socket receiver byte held receive reply
+    → (answer : Answer) × (took r answer m x o ≡ takeOf kindNumber settings socket receiver byte held receive reply) × Told answer n
 unfolding takeNumbers
-take-as-box settings socket receiver byte held receive reply r n m x o e =
-    let answer = takeOf settings socket receiver byte held receive reply .answer in (
+take-as-box kindNumber settings socket receiver byte held receive reply r n m x o e =
+    let answer = takeOf kindNumber settings socket receiver byte held receive reply .answer in (
       answer,
       ap (λ (l : Took Held ℕ). took (l .receiver) answer (l .held) (l .receive) (l .reply)) e,
-      rw (ap (λ (l : Took Held ℕ). l .answer) e) (take-told settings socket receiver byte held receive reply),
+      rw (ap (λ (l : Took Held ℕ). l .answer) e) (take-told kindNumber settings socket receiver byte held receive reply),
     )
 
-pub whole-as-box : (settings : Settings) (message : List ℕ) (held : Held) (reply : List ℕ) (n : ℕ) (m : Held) (o : List ℕ)
-    → left n m o ≡ wholeNumbers settings message held reply
-    → (answer : Answer) × (left answer m o ≡ wholeOf settings message held reply) × Told answer n
+pub whole-as-box : (kindNumber : ℕ) (settings : Settings) (message : List ℕ) (held : Held) (reply : List ℕ) (n : ℕ) (m : Held) (o : List ℕ)
+    → left n m o ≡ wholeNumbers kindNumber settings message held reply
+    → (answer : Answer) × (left answer m o ≡ wholeOf kindNumber settings message held reply) × Told answer n
 unfolding wholeNumbers
-whole-as-box settings message held reply n m o e =
-    let answer = wholeOf settings message held reply .answer in
-    (answer, ap (λ (l : Left Held ℕ). left answer (l .held) (l .reply)) e, rw (ap (λ (l : Left Held ℕ). l .answer) e) (whole-told settings message held reply))
+whole-as-box kindNumber settings message held reply n m o e =
+    let answer = wholeOf kindNumber settings message held reply .answer in
+    (answer, ap (λ (l : Left Held ℕ). left answer (l .held) (l .reply)) e, rw (ap (λ (l : Left Held ℕ). l .answer) e) (whole-told kindNumber settings message held reply))

@@ -3,16 +3,19 @@ use Prim.Native.Nat.{ℕ, _/_, _≤_}
 use mathlib.Core.Bool.{true, false}
 use mathlib.Core.List.{List, []}
 use mathlib.Core.Logic.{⊎-elim}
-use mathlib.Core.Path.{_≡_, ap, _∙_}
+use mathlib.Core.Path.{_≡_, refl, ap, _∙_}
 use native.Mathlib.Omega.{arith}
 use lib.ListN.{length, getD, drop, length-take, length-drop}
 use lib.Seq.{getD-take, getD-drop}
 use borrow.Author.Tests.{le-leb, lt-ltb, lt-leb, ne-eqb, eqb-true}
 use Rattle.ground.specs.Calls.{outcome}
-use Rattle.programs.specs.Memory.{programSize, memorySize, editPlace}
+use Rattle.kinds.specs.declared.Kind.the-variants.{Pod}
+use Rattle.kinds.specs.Kinds.{isKind, kindOf, numberOf, sizeOf}
+use Rattle.programs.specs.Memory.{memorySize, editPlace}
 use Rattle.programs.specs.Held.{Held, heldOf, Edit, bytesIn}
 use Rattle.programs.proofs.Parts.{put-same}
 use Rattle.controls.specs.Meaning.{Flanger, RotaryMove}
+use Rattle.controls.proofs.Rows.{has-46}
 use Rattle.controls.proofs.Controllers.{rotary-under-flanger}
 use Rattle.framing.specs.Receiver.{underOf, holdingOf, takesOne}
 use Rattle.framing.specs.Bytes.{stepOf}
@@ -34,18 +37,18 @@ use Rattle.demands.proofs.Passed.{take-passed}
 
 -- on any channel that is heard
 module _ (settings : Settings) (status : ℕ) (heard : isHeard settings status ≡ true) (is-controller : isController status ≡ true)
-    (player : ℕ) (held : Held) (m : memorySize programSize ≤ length (held .memory))
+    (player : ℕ) (held : Held) (m : memorySize Pod ≤ length (held .memory))
     (f : Flanger (selector player held)) (controller value : ℕ) (rotary : RotaryMove controller) (h : value ≤ 127) where
   -- the message, however it was finished
-  pub rotary-refused : messageDoes settings player held (Channel status controller value) ≡ refusing held 19
+  pub rotary-refused : messageDoes Pod settings player held (Channel status controller value) ≡ refusing held 19
   unfolding messageDoes channelDoes
   rotary-refused =
-      let place = editPlace programSize player in
-      let edit = bytesIn programSize player Edit held in
-      let long : length edit ≡ programSize = simp (length-take, length-drop) (omega arith) in
-      let at : getD edit 46 0 ≡ selector player held = getD-take programSize (drop place (held .memory)) 46 0 (omega arith) ∙ getD-drop place (held .memory) 46 0 in
+      let place = editPlace Pod player in
+      let edit = bytesIn Pod player Edit held in
+      let long : length edit ≡ sizeOf Pod = simp (length-take, length-drop) (omega arith) in
+      let at : getD edit 46 0 ≡ selector player held = getD-take (sizeOf Pod) (drop place (held .memory)) 46 0 (has-46 Pod) ∙ getD-drop place (held .memory) 46 0 in
       rw (heard, is-controller, rotary-under-flanger controller value edit rotary h (omega arith) (rw at f))
-      (ap (λ (memory : List ℕ). outcome (refused 19) (heldOf memory) []) (put-same place programSize (held .memory)))
+      (ap (λ (memory : List ℕ). outcome (refused 19) (heldOf memory) []) (put-same place (sizeOf Pod) (held .memory)))
 
   upper : status / 16 ≡ 0xB
   unfolding isController
@@ -59,13 +62,13 @@ module _ (settings : Settings) (status : ℕ) (heard : isHeard settings status �
   data-byte = ⊎-elim (λ e. omega arith) (λ m. ⊎-elim (λ e. omega arith) (λ e. omega arith) m) rotary
 
   -- the last byte of the move, on either socket, whatever stands in the buffers: 19, and all else is as it was
-  pub rotary-on-socket : (receive reply : List ℕ) → isValid settings ≡ true → player ≤ 1 → longest programSize ≤ length receive → longest programSize ≤ length reply
-      → takeOf settings player (holdingOf status controller) value held receive reply ≡ took (underOf status) (refused 19) held receive reply
-  unfolding stepDoes stepOf
+  pub rotary-on-socket : (receive reply : List ℕ) → isValid settings ≡ true → player ≤ 1 → longest Pod ≤ length receive → longest Pod ≤ length reply
+      → takeOf (numberOf Pod) settings player (holdingOf status controller) value held receive reply ≡ took (underOf status) (refused 19) held receive reply
+  unfolding stepDoes stepOf isKind kindOf numberOf
   rotary-on-socket receive reply v s x r =
-      let is-sound = stands-sound limit (holding {s = status} {d = controller} (omega (arith, upper)) (omega (arith, upper)) takes-two data-byte) in
-      take-passed settings player (holdingOf status controller) value held receive reply
-      (le-leb _ _ m, (le-leb _ _ x, (le-leb _ _ r, (le-leb player 1 s, (is-sound, (v, tt))))))
+      let is-sound = stands-sound (limit Pod) (holding {s = status} {d = controller} (omega (arith, upper)) (omega (arith, upper)) takes-two data-byte) in
+      take-passed (numberOf Pod) settings player (holdingOf status controller) value held receive reply
+      (refl, (le-leb _ _ m, (le-leb _ _ x, (le-leb _ _ r, (le-leb player 1 s, (is-sound, (v, tt)))))))
       ∙ (rw (
         lt-leb 0xF8 value (omega arith),
         lt-ltb value 0x80 (omega arith),

@@ -4,7 +4,8 @@ use mathlib.Core.List.{List}
 use mathlib.Core.Path.{_≡_, refl, sym, ap, _∙_}
 use native.Mathlib.Omega.{arith}
 use lib.ListN.{length}
-use Rattle.programs.specs.Memory.{programSize, memorySize}
+use Rattle.kinds.specs.declared.Kind.{Kind}
+use Rattle.programs.specs.Memory.{memorySize}
 use Rattle.programs.specs.Held.{Held, Target, placeFor, countFor, bytesIn, storeIn}
 use Rattle.programs.proofs.Parts.{part-put}
 use Rattle.sockets.specs.Framer.{SysEx}
@@ -17,28 +18,28 @@ use Rattle.podbox.specs.Whole.{handedDoes}
 use Rattle.demands.proofs.Forms.{named-inside, dump-opens, request-opens, ended-does}
 use Rattle.demands.proofs.Exactly.{body-exactly}
 
-module _ (settings : Settings) (player : ℕ) (held : Held) (m : memorySize programSize ≤ length (held .memory)) (t : Target) (bytes body : List ℕ)
-    (d : IsDump programSize t bytes body) where
+module _ (kind : Kind) (settings : Settings) (player : ℕ) (held : Held) (m : memorySize kind ≤ length (held .memory)) (t : Target) (bytes body : List ℕ)
+    (d : IsDump kind t bytes body) where
   -- what is named holds what was stored
-  pub part-stored : bytesIn programSize player t (storeIn programSize player t bytes held) ≡ bytes
+  pub part-stored : bytesIn kind player t (storeIn kind player t bytes held) ≡ bytes
   part-stored =
-      let inside = named-inside player t (d .there) in
-      part-put (placeFor programSize player t) (countFor programSize t) bytes (held .memory) (omega arith) (d .count)
+      let inside = named-inside kind player t (d .there) in
+      part-put (placeFor kind player t) (countFor kind t) bytes (held .memory) (omega arith) (d .count)
 
   -- finished on a socket, by the same player
-  pub comes-back : (let after = messageDoes settings player held (SysEx body) .held in
-      messageDoes settings player after (SysEx (requestBody t)) ≡ sending (ended body) after)
+  pub comes-back : (let after = messageDoes kind settings player held (SysEx body) .held in
+      messageDoes kind settings player after (SysEx (requestBody kind t)) ≡ sending (ended body) after)
   unfolding messageDoes
   comes-back =
-      let stored = ap (λ (o : Outcome). o .held) (body-exactly settings player held body .named body refl t bytes d) in
-      let after = storeIn programSize player t bytes held in
-      rw stored (body-exactly settings player after (requestBody t) .dumped (requestBody t) refl t (record { there = d .there; form = refl })
-      ∙ ap (λ (part : List ℕ). sending (ended (dumpBody t part)) after) part-stored ∙ ap (λ (b : List ℕ). sending (ended b) after) (sym (d .form)))
+      let stored = ap (λ (o : Outcome). o .held) (body-exactly kind settings player held body .named body refl t bytes d) in
+      let after = storeIn kind player t bytes held in
+      rw stored (body-exactly kind settings player after (requestBody kind t) .dumped (requestBody kind t) refl t (record { there = d .there; form = refl })
+      ∙ ap (λ (part : List ℕ). sending (ended (dumpBody kind t part)) after) part-stored ∙ ap (λ (b : List ℕ). sending (ended b) after) (sym (d .form)))
 
   -- handed over whole
-  pub comes-back-whole : (let after = handedDoes settings player (ended body) held .held in
-      handedDoes settings player (ended (requestBody t)) after ≡ sending (ended body) after)
+  pub comes-back-whole : (let after = handedDoes kind settings player (ended body) held .held in
+      handedDoes kind settings player (ended (requestBody kind t)) after ≡ sending (ended body) after)
   unfolding messageDoes
   comes-back-whole =
-      rw (ended-does settings player body held (dump-opens t bytes body d))
-      (ended-does settings player (requestBody t) _ (request-opens t (requestBody t) (record { there = d .there; form = refl })) ∙ comes-back)
+      rw (ended-does kind settings player body held (dump-opens kind t bytes body d))
+      (ended-does kind settings player (requestBody kind t) _ (request-opens kind t (requestBody kind t) (record { there = d .there; form = refl })) ∙ comes-back)

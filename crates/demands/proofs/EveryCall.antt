@@ -9,7 +9,9 @@ use lib.Seq.{drop-append-seam}
 use borrow.Author.Tests.{leb-true}
 use Rattle.ground.specs.Lists.{written}
 use Rattle.ground.specs.Calls.{left, leaves}
-use Rattle.programs.specs.Memory.{programSize, memorySize}
+use Rattle.kinds.specs.declared.Kind.{Kind}
+use Rattle.kinds.specs.Kinds.{kindOf}
+use Rattle.programs.specs.Memory.{memorySize}
 use Rattle.programs.specs.Held.{Held}
 use Rattle.framing.specs.declared.Receiver.{Receiver}
 use Rattle.framing.specs.declared.Event.{Event}
@@ -46,27 +48,27 @@ length-zero Cut n = refl
 length-zero (Refused refusal) n = refl
 
 -- where nothing changes
-unchanged : (held : Held) (reply : List ℕ) (answer : Answer) → answerLength answer ≡ 0 → Confined held reply (left answer held reply)
-unchanged held reply answer none = record { refused = λ _. (refl, refl); kept = λ _ _. refl; behind = refl; fits = omega arith; length-kept = refl }
+unchanged : (kind : Kind) (held : Held) (reply : List ℕ) (answer : Answer) → answerLength answer ≡ 0 → Confined kind held reply (left answer held reply)
+unchanged kind held reply answer none = record { refused = λ _. (refl, refl); kept = λ _ _. refl; behind = refl; fits = omega arith; length-kept = refl }
 
 -- what was carried out
-tame-confined : (held : Held) (reply : List ℕ) (o : Outcome) → Tame held o → Confined held reply (leaves o reply)
-tame-confined held reply o (stores after e) = record { refused = λ h. absurd (omega arith); kept = λ n _. absurd (n refl); behind = refl; fits = omega arith; length-kept = e }
-tame-confined held reply o (sends bytes short) =
+tame-confined : (kind : Kind) (held : Held) (reply : List ℕ) (o : Outcome) → Tame kind held o → Confined kind held reply (leaves o reply)
+tame-confined kind held reply o (stores after e) = record { refused = λ h. absurd (omega arith); kept = λ n _. absurd (n refl); behind = refl; fits = omega arith; length-kept = e }
+tame-confined kind held reply o (sends bytes short) =
     record { refused = λ h. absurd (omega arith); kept = λ _ _. refl; behind = drop-append-seam bytes (drop (length bytes) reply); fits = short; length-kept = refl }
-tame-confined held reply o (applies after e) = record { refused = λ h. absurd (omega arith); kept = λ _ n. absurd (n refl); behind = refl; fits = omega arith; length-kept = e }
-tame-confined held reply o (refuses number lo hi) = unchanged held reply _ refl
+tame-confined kind held reply o (applies after e) = record { refused = λ h. absurd (omega arith); kept = λ _ n. absurd (n refl); behind = refl; fits = omega arith; length-kept = e }
+tame-confined kind held reply o (refuses number lo hi) = unchanged kind held reply _ refl
 
-tame-numbered : (held : Held) (o : Outcome) → Tame held o → ByteNumber (answerNumber (o .answer)) × (answerNumber (o .answer) ≤ 22)
-tame-numbered held o (stores after e) = (inl (omega arith), omega arith)
-tame-numbered held o (sends bytes short) = (inl (omega arith), omega arith)
-tame-numbered held o (applies after e) = (inl (omega arith), omega arith)
-tame-numbered held o (refuses number lo hi) = (inr (inl (lo, hi)), hi)
+tame-numbered : (kind : Kind) (held : Held) (o : Outcome) → Tame kind held o → ByteNumber (answerNumber (o .answer)) × (answerNumber (o .answer) ≤ 22)
+tame-numbered kind held o (stores after e) = (inl (omega arith), omega arith)
+tame-numbered kind held o (sends bytes short) = (inl (omega arith), omega arith)
+tame-numbered kind held o (applies after e) = (inl (omega arith), omega arith)
+tame-numbered kind held o (refuses number lo hi) = (inr (inl (lo, hi)), hi)
 
 -- the numbers of the panel's messages
 check-in : (c : Check) → PanelNumber (checkNumber c)
 check-in (check.TooLong most) = inr (inr (inl (omega arith, omega arith)))
-check-in check.Ours = inr (inr (inl (omega arith, omega arith)))
+check-in (check.Ours device) = inr (inr (inl (omega arith, omega arith)))
 check-in check.OpcodeAndType = inr (inr (inl (omega arith, omega arith)))
 check-in (check.Length right) = inr (inr (inl (omega arith, omega arith)))
 check-in (check.Program highest) = inr (inr (inl (omega arith, omega arith)))
@@ -85,34 +87,34 @@ order-in order.StoreAll = inl refl
 order-in (order.Refused check) = check-in check
 
 -- Every message of the panel.
-pub every-message : (settings : Settings) (message : List ℕ) (held : Held) (reply : List ℕ) → AnsweredWhole held reply (wholeOf settings message held reply)
-every-message settings message held reply =
-    whole-cases settings message held reply (AnsweredWhole held reply)
-    (record { numbered = inr (inr (inr (inr (inl refl)))); confined = unchanged held reply _ refl })
-    (record { numbered = inr (inr (inr (inr (inr refl)))); confined = unchanged held reply _ refl })
+pub every-message : (kindNumber : ℕ) (settings : Settings) (message : List ℕ) (held : Held) (reply : List ℕ) → AnsweredWhole (kindOf kindNumber) held reply (wholeOf kindNumber settings message held reply)
+every-message kindNumber settings message held reply =
+    whole-cases kindNumber settings message held reply (AnsweredWhole (kindOf kindNumber) held reply)
+    (record { numbered = inr (inr (inr (inr (inl refl)))); confined = unchanged (kindOf kindNumber) held reply _ refl })
+    (record { numbered = inr (inr (inr (inr (inr refl)))); confined = unchanged (kindOf kindNumber) held reply _ refl })
     (λ all. record {
-      numbered = rw (does-number programSize settings panel (bodyOf message) held (messageOrder settings message)) (order-in (messageOrder settings message));
-      confined = tame-confined held reply _ (handed-tame settings panel held (leb-true _ _ (all .0)) message);
+      numbered = rw (does-number (kindOf kindNumber) settings panel (bodyOf message) held (messageOrder (kindOf kindNumber) settings message)) (order-in (messageOrder (kindOf kindNumber) settings message));
+      confined = tame-confined (kindOf kindNumber) held reply _ (handed-tame (kindOf kindNumber) settings panel held (leb-true _ _ (all .1 .0)) message);
     })
 
-module _ (settings : Settings) (r : Receiver) (byte : ℕ) (held : Held) (receive reply : List ℕ) where
+module _ (kindNumber : ℕ) (settings : Settings) (r : Receiver) (byte : ℕ) (held : Held) (receive reply : List ℕ) where
   -- 0 to 22: the receiver has stepped
-  with-step : (place : List ℕ) (l : Left) → Confined held reply l → ByteNumber (answerNumber (l .answer)) × (answerNumber (l .answer) ≤ 22) → OnePlace r byte receive place
-      → Answered r byte held receive reply (took (stepOf limit r byte .receiver) (l .answer) (l .held) place (l .reply))
+  with-step : (place : List ℕ) (l : Left) → Confined (kindOf kindNumber) held reply l → ByteNumber (answerNumber (l .answer)) × (answerNumber (l .answer) ≤ 22) → OnePlace (kindOf kindNumber) r byte receive place
+      → Answered (kindOf kindNumber) r byte held receive reply (took (stepOf (limit (kindOf kindNumber)) r byte .receiver) (l .answer) (l .held) place (l .reply))
   with-step place l k n one =
       let below = n .1 in
       record { numbered = n .0; confined = k; turned-away = λ h. absurd (omega arith); stepped = λ _. refl; placed = one }
 
-  quiet : (answer : Answer) (place : List ℕ) → answerNumber answer ≤ 4 → answerLength answer ≡ 0 → OnePlace r byte receive place
-      → Answered r byte held receive reply (took (stepOf limit r byte .receiver) answer held place reply)
-  quiet answer place small none one = with-step place (left answer held reply) (unchanged held reply answer none) (inl small, omega arith) one
+  quiet : (answer : Answer) (place : List ℕ) → answerNumber answer ≤ 4 → answerLength answer ≡ 0 → OnePlace (kindOf kindNumber) r byte receive place
+      → Answered (kindOf kindNumber) r byte held receive reply (took (stepOf (limit (kindOf kindNumber)) r byte .receiver) answer held place reply)
+  quiet answer place small none one = with-step place (left answer held reply) (unchanged (kindOf kindNumber) held reply answer none) (inl small, omega arith) one
 
-  done : (o : Outcome) → Tame held o → Answered r byte held receive reply (took (stepOf limit r byte .receiver) (o .answer) (o .held) receive (written (o .sent) reply))
-  done o tame = with-step receive (leaves o reply) (tame-confined held reply o tame) (tame-numbered held o tame) (inl refl)
+  done : (o : Outcome) → Tame (kindOf kindNumber) held o → Answered (kindOf kindNumber) r byte held receive reply (took (stepOf (limit (kindOf kindNumber)) r byte .receiver) (o .answer) (o .held) receive (written (o .sent) reply))
+  done o tame = with-step receive (leaves o reply) (tame-confined (kindOf kindNumber) held reply o tame) (tame-numbered (kindOf kindNumber) held o tame) (inl refl)
 
   module _ (socket : ℕ) where
-    event-answered : memorySize programSize ≤ length (held .memory) → (e : Event) → Belongs limit r byte e
-        → Answered r byte held receive reply (stepDoes (boxRules settings) (socketOf socket) byte (lent r held receive reply) (record { receiver = stepOf limit r byte .receiver; event = e }))
+    event-answered : memorySize (kindOf kindNumber) ≤ length (held .memory) → (e : Event) → Belongs (limit (kindOf kindNumber)) r byte e
+        → Answered (kindOf kindNumber) r byte held receive reply (stepDoes (boxRules kindNumber settings) (socketOf socket) byte (lent r held receive reply) (record { receiver = stepOf (limit (kindOf kindNumber)) r byte .receiver; event = e }))
     unfolding stepDoes
     event-answered m event.Nothing b = quiet Taken receive (omega arith) refl (inl refl)
     event-answered m (event.Collect place) b =
@@ -120,14 +122,14 @@ module _ (settings : Settings) (r : Receiver) (byte : ℕ) (held : Held) (receiv
         (⊎-elim (λ p. inr (inl (ap (λ (k : ℕ). set receive k byte) (p .0), p .1, p .2, p .3))) (λ p. inr (inr (ap (λ (k : ℕ). set receive k byte) (p .0), p .1))) b)
     event-answered m event.Cut b = quiet Cut receive (omega arith) refl (inl refl)
     event-answered m event.CutAndOpen b = quiet Cut (set receive 0 byte) (omega arith) refl (inr (inr (refl, b)))
-    event-answered m event.TooLong b = done _ (message-tame settings (socketNumber (socketOf socket)) held m TooLong)
-    event-answered m (event.SysEx count) b = done _ (message-tame settings (socketNumber (socketOf socket)) held m (SysEx (take count receive)))
-    event-answered m (event.Channel status first second) b = done _ (message-tame settings (socketNumber (socketOf socket)) held m (Channel status first second))
+    event-answered m event.TooLong b = done _ (message-tame (kindOf kindNumber) settings (socketNumber (socketOf socket)) held m TooLong)
+    event-answered m (event.SysEx count) b = done _ (message-tame (kindOf kindNumber) settings (socketNumber (socketOf socket)) held m (SysEx (take count receive)))
+    event-answered m (event.Channel status first second) b = done _ (message-tame (kindOf kindNumber) settings (socketNumber (socketOf socket)) held m (Channel status first second))
 
     -- Every byte is answered, for every receiver, socket, byte, settings and buffers of any length.
-    pub every-byte : Answered r byte held receive reply (takeOf settings socket r byte held receive reply)
+    pub every-byte : Answered (kindOf kindNumber) r byte held receive reply (takeOf kindNumber settings socket r byte held receive reply)
     every-byte =
-        take-cases settings socket r byte held receive reply (Answered r byte held receive reply)
+        take-cases kindNumber settings socket r byte held receive reply (Answered (kindOf kindNumber) r byte held receive reply)
         (λ number lo hi.
-        record { numbered = inr (inr (lo, hi)); confined = unchanged held reply _ refl; turned-away = λ _. refl; stepped = λ h. absurd (omega arith); placed = inl refl })
-        (λ all. event-answered (leb-true _ _ (all .0)) (stepOf limit r byte .event) (belongs limit r byte))
+        record { numbered = inr (inr (lo, hi)); confined = unchanged (kindOf kindNumber) held reply _ refl; turned-away = λ _. refl; stepped = λ h. absurd (omega arith); placed = inl refl })
+        (λ all. event-answered (leb-true _ _ (all .1 .0)) (stepOf (limit (kindOf kindNumber)) r byte .event) (belongs (limit (kindOf kindNumber)) r byte))

@@ -13,7 +13,8 @@ use Rattle.ground.specs.Tests.{AllHold}
 use Rattle.ground.specs.Calls.{outcome, leaves}
 use Rattle.ground.proofs.Tests.{by}
 use Rattle.halves.specs.HalfBytes.{join}
-use Rattle.programs.specs.Memory.{programSize}
+use Rattle.kinds.specs.declared.Kind.{Kind}
+use Rattle.kinds.specs.Kinds.{kindOf}
 use Rattle.programs.specs.Held.{Held, Target, storeIn}
 use Rattle.framing.specs.declared.Receiver.{Receiver}
 use Rattle.framing.specs.declared.Event.the-variants as event
@@ -39,49 +40,49 @@ use Rattle.demands.proofs.Passed.{take-passed, whole-passed}
 use Rattle.demands.proofs.Accepts.{dump-judged, request-judged, identity-judged}
 use Rattle.demands.proofs.Forms.{Opens, store-does, send-does, dump-data, dump-opens, request-opens, identity-opens, ended-does}
 
-module _ (settings : Settings) (player : ℕ) (held : Held) where
+module _ (kind : Kind) (settings : Settings) (player : ℕ) (held : Held) where
   abbrev Does : List ℕ → Outcome
-  Does body = bodyDoes programSize settings player body held
+  Does body = bodyDoes kind settings player body held
 
   -- every dump, request and identity request is carried out
-  dump-does : (t : Target) (bytes body : List ℕ) → IsDump programSize t bytes body → Does body ≡ outcome Stored (storeIn programSize player t bytes held) []
+  dump-does : (t : Target) (bytes body : List ℕ) → IsDump kind t bytes body → Does body ≡ outcome Stored (storeIn kind player t bytes held) []
   dump-does t bytes body d =
-      rw (d .form, dump-judged programSize settings bytes (d .whole-bytes) t (d .there) (d .count), store-does settings player t (dumpBody t bytes) held, dump-data t bytes)
+      rw (d .form, dump-judged kind settings bytes (d .whole-bytes) t (d .there) (d .count), store-does kind settings player t (dumpBody kind t bytes) held, dump-data kind t bytes)
 
-  request-does : (t : Target) (body : List ℕ) → IsRequest t body → Does body ≡ answering programSize player t held
-  request-does t body q = rw (q .form, request-judged programSize settings t (q .there)) (send-does settings player t (requestBody t) held)
+  request-does : (t : Target) (body : List ℕ) → IsRequest kind t body → Does body ≡ answering kind player t held
+  request-does t body q = rw (q .form, request-judged kind settings t (q .there)) (send-does kind settings player t (requestBody kind t) held)
 
-  identity-does : (cc : ℕ) (body : List ℕ) → IsIdentity settings cc body → Does body ≡ sending (identityReply settings cc) held
+  identity-does : (cc : ℕ) (body : List ℕ) → IsIdentity settings cc body → Does body ≡ sending (identityReply kind settings cc) held
   unfolding orderDoes
-  identity-does cc body i = rw (i .form, identity-judged programSize settings cc (i .low) (i .ours))
+  identity-does cc body i = rw (i .form, identity-judged kind settings cc (i .low) (i .ours))
 
   -- and nothing else is
-  stored-order : (body : List ℕ) (o : Order) → Meant programSize settings body o → orderDoes programSize settings player o body held .answer ≡ Stored
-      → (t : Target) × (bytes : List ℕ) × IsDump programSize t bytes body
+  stored-order : (body : List ℕ) (o : Order) → Meant kind settings body o → orderDoes kind settings player o body held .answer ≡ Stored
+      → (t : Target) × (bytes : List ℕ) × IsDump kind t bytes body
   unfolding orderDoes
   stored-order body o (identity channel i) e = let z : _≡_ {A = ℕ} 0 1 = cc in absurd (omega arith)
-  stored-order body o (asked t q) e = let f = rw (send-does settings player t body held) at e in let z : _≡_ {A = ℕ} 0 1 = cc in absurd (omega arith)
+  stored-order body o (asked t q) e = let f = rw (send-does kind settings player t body held) at e in let z : _≡_ {A = ℕ} 0 1 = cc in absurd (omega arith)
   stored-order body o (dumped t d) e = (t, join (drop (dataPlace (typeFor t)) body), d)
   stored-order body o (unsaid check) e = let z : _≡_ {A = ℕ} 0 1 = cc in absurd (omega arith)
 
-  answered-order : (count : ℕ) (body : List ℕ) (o : Order) → Meant programSize settings body o → orderDoes programSize settings player o body held .answer ≡ Sent count
-      → ((t : Target) × IsRequest t body) ⊎ ((cc : ℕ) × IsIdentity settings cc body)
+  answered-order : (count : ℕ) (body : List ℕ) (o : Order) → Meant kind settings body o → orderDoes kind settings player o body held .answer ≡ Sent count
+      → ((t : Target) × IsRequest kind t body) ⊎ ((cc : ℕ) × IsIdentity settings cc body)
   unfolding orderDoes
   answered-order count body o (identity channel i) e = inr (channel, i)
   answered-order count body o (asked t q) e = inl (t, q)
-  answered-order count body o (dumped t d) e = let f = rw (store-does settings player t body held) at e in let z : _≡_ {A = ℕ} 0 1 = cc in absurd (omega arith)
+  answered-order count body o (dumped t d) e = let f = rw (store-does kind settings player t body held) at e in let z : _≡_ {A = ℕ} 0 1 = cc in absurd (omega arith)
   answered-order count body o (unsaid check) e = let z : _≡_ {A = ℕ} 0 1 = cc in absurd (omega arith)
 
   -- one body, whichever of them says that it is the message's
-  pub body-exactly : (body : List ℕ) → Exactly settings player held (λ b. b ≡ body) (bodyDoes programSize settings player body held)
+  pub body-exactly : (body : List ℕ) → Exactly kind settings player held (λ b. b ≡ body) (bodyDoes kind settings player body held)
   body-exactly body = record {
     stored = (
-      (λ e. let d = stored-order body (judgeOf programSize settings body) (meant programSize settings body) e in (body, refl, d .0, d .1, d .2)),
+      (λ e. let d = stored-order body (judgeOf kind settings body) (meant kind settings body) e in (body, refl, d .0, d .1, d .2)),
       (λ x. ap (λ (o : Outcome). o .answer) (ap Does (sym (x .1)) ∙ dump-does (x .2) (x .3) (x .0) (x .4))),
     );
     named = λ b e t bytes d. ap Does (sym e) ∙ dump-does t bytes b d;
     answered = (
-      (λ x. (body, refl, answered-order (x .0) body (judgeOf programSize settings body) (meant programSize settings body) (x .1))),
+      (λ x. (body, refl, answered-order (x .0) body (judgeOf kind settings body) (meant kind settings body) (x .1))),
       (λ x. ⊎-elim
           (λ q. (_, ap (λ (o : Outcome). o .answer) (ap Does (sym (x .1)) ∙ request-does (q .0) (x .0) (q .1))))
           (λ i. (_, ap (λ (o : Outcome). o .answer) (ap Does (sym (x .1)) ∙ identity-does (i .0) (x .0) (i .1)))) (x .2)),
@@ -92,11 +93,11 @@ module _ (settings : Settings) (player : ℕ) (held : Held) where
 
   -- a message that is handed over whole is refused, or it is a body and F7, and does what that does
   by-frame : (message : List ℕ) (P : Outcome → Type 0) → ((number : ℕ) → P (refusing held number)) → ((body : List ℕ) → message ≡ ended body → P (Does body))
-      → P (handedDoes settings player message held)
+      → P (handedDoes kind settings player message held)
   unfolding messageDoes
   by-frame message P when-refused when-framed =
-      rw (handed-does settings message player held)
-      (by P (ltb (longest programSize) (length message)) _ _ (λ _. when-refused 10)
+      rw (handed-does kind settings message player held)
+      (by P (ltb (longest kind) (length message)) _ _ (λ _. when-refused 10)
       (λ _. by P (isFramed message) _ _
       (λ t. let f = framed-is message t in
       let body : List ℕ = 0xF0 ∷ f .0 in
@@ -104,46 +105,46 @@ module _ (settings : Settings) (player : ℕ) (held : Held) where
       rw same (when-framed body (f .1)))
       (λ _. when-refused 11)))
 
-  pub whole-exactly : (message : List ℕ) → Exactly settings player held (λ body. message ≡ ended body) (handedDoes settings player message held)
+  pub whole-exactly : (message : List ℕ) → Exactly kind settings player held (λ body. message ≡ ended body) (handedDoes kind settings player message held)
   whole-exactly message =
-      let as-body : (body : List ℕ) → message ≡ ended body → Opens body → handedDoes settings player message held ≡ Does body
-      = λ body e o. ap (λ (m : List ℕ). handedDoes settings player m held) e ∙ ended-does settings player body held o in
+      let as-body : (body : List ℕ) → message ≡ ended body → Opens kind body → handedDoes kind settings player message held ≡ Does body
+      = λ body e o. ap (λ (m : List ℕ). handedDoes kind settings player m held) e ∙ ended-does kind settings player body held o in
       record {
         stored = (
           by-frame message
-              (λ (o : Outcome). o .answer ≡ Stored → (body : List ℕ) × (message ≡ ended body) × (t : Target) × (bytes : List ℕ) × IsDump programSize t bytes body)
+              (λ (o : Outcome). o .answer ≡ Stored → (body : List ℕ) × (message ≡ ended body) × (t : Target) × (bytes : List ℕ) × IsDump kind t bytes body)
               (λ number e. let z : _≡_ {A = ℕ} 0 1 = cc in absurd (omega arith))
-              (λ body f e. let x = body-exactly body .stored .0 e in (body, f, x .2, x .3, subst (λ (b : List ℕ). IsDump programSize (x .2) (x .3) b) (x .1) (x .4))),
-          (λ x. ap (λ (o : Outcome). o .answer) (as-body (x .0) (x .1) (dump-opens (x .2) (x .3) (x .0) (x .4)) ∙ dump-does (x .2) (x .3) (x .0) (x .4))),
+              (λ body f e. let x = body-exactly body .stored .0 e in (body, f, x .2, x .3, subst (λ (b : List ℕ). IsDump kind (x .2) (x .3) b) (x .1) (x .4))),
+          (λ x. ap (λ (o : Outcome). o .answer) (as-body (x .0) (x .1) (dump-opens kind (x .2) (x .3) (x .0) (x .4)) ∙ dump-does (x .2) (x .3) (x .0) (x .4))),
         );
-        named = λ body e t bytes d. as-body body e (dump-opens t bytes body d) ∙ dump-does t bytes body d;
+        named = λ body e t bytes d. as-body body e (dump-opens kind t bytes body d) ∙ dump-does t bytes body d;
         answered = (
           (λ x. by-frame message
-              (λ (o : Outcome). o .answer ≡ Sent (x .0) → (body : List ℕ) × (message ≡ ended body) × (((t : Target) × IsRequest t body) ⊎ ((cc : ℕ) × IsIdentity settings cc body)))
+              (λ (o : Outcome). o .answer ≡ Sent (x .0) → (body : List ℕ) × (message ≡ ended body) × (((t : Target) × IsRequest kind t body) ⊎ ((cc : ℕ) × IsIdentity settings cc body)))
               (λ number e. let z : _≡_ {A = ℕ} 0 1 = cc in absurd (omega arith))
-              (λ body f e. (body, f, answered-order (x .0) body (judgeOf programSize settings body) (meant programSize settings body) e)) (x .1)),
+              (λ body f e. (body, f, answered-order (x .0) body (judgeOf kind settings body) (meant kind settings body) e)) (x .1)),
           (λ x. ⊎-elim
-              (λ q. (_, ap (λ (o : Outcome). o .answer) (as-body (x .0) (x .1) (request-opens (q .0) (x .0) (q .1)) ∙ request-does (q .0) (x .0) (q .1))))
-              (λ i. (_, ap (λ (o : Outcome). o .answer) (as-body (x .0) (x .1) (identity-opens settings (i .0) (x .0) (i .1)) ∙ identity-does (i .0) (x .0) (i .1)))) (x .2)),
+              (λ q. (_, ap (λ (o : Outcome). o .answer) (as-body (x .0) (x .1) (request-opens kind (q .0) (x .0) (q .1)) ∙ request-does (q .0) (x .0) (q .1))))
+              (λ i. (_, ap (λ (o : Outcome). o .answer) (as-body (x .0) (x .1) (identity-opens kind settings (i .0) (x .0) (i .1)) ∙ identity-does (i .0) (x .0) (i .1)))) (x .2)),
         );
-        dumped = λ body e t q. as-body body e (request-opens t body q) ∙ request-does t body q;
-        identified = λ body e channel i. as-body body e (identity-opens settings channel body i) ∙ identity-does channel body i;
+        dumped = λ body e t q. as-body body e (request-opens kind t body q) ∙ request-does t body q;
+        identified = λ body e channel i. as-body body e (identity-opens kind settings channel body i) ∙ identity-does channel body i;
       }
 
 -- Exactly, at the calls of the box, where no test of the call fails. The panel's:
-pub whole-call : (settings : Settings) (message : List ℕ) (held : Held) (reply : List ℕ) → AllHold (wholeTests settings held reply)
-    → (let o = handedDoes settings panel message held in
-    (wholeOf settings message held reply ≡ leaves o reply) × Exactly settings panel held (λ body. message ≡ ended body) o)
-whole-call settings message held reply all = (whole-passed settings message held reply all, whole-exactly settings panel held message)
+pub whole-call : (kindNumber : ℕ) (settings : Settings) (message : List ℕ) (held : Held) (reply : List ℕ) → AllHold (wholeTests kindNumber settings held reply)
+    → (let o = handedDoes (kindOf kindNumber) settings panel message held in
+    (wholeOf kindNumber settings message held reply ≡ leaves o reply) × Exactly (kindOf kindNumber) settings panel held (λ body. message ≡ ended body) o)
+whole-call kindNumber settings message held reply all = (whole-passed kindNumber settings message held reply all, whole-exactly (kindOf kindNumber) settings panel held message)
 
 -- and the byte's, on a socket in any sound state, that finishes a SysEx
-pub byte-call : (settings : Settings) (socket : ℕ) (r : Receiver) (byte : ℕ) (held : Held) (receive reply : List ℕ) (count : ℕ)
-    → AllHold (takeTests settings socket (lent r held receive reply)) → stepOf limit r byte .event ≡ event.SysEx count
-    → (let o = bodyDoes programSize settings socket (take count receive) held in
-    (takeOf settings socket r byte held receive reply ≡ took (stepOf limit r byte .receiver) (o .answer) (o .held) receive (written (o .sent) reply))
-    × Exactly settings socket held (λ body. body ≡ take count receive) o)
+pub byte-call : (kindNumber : ℕ) (settings : Settings) (socket : ℕ) (r : Receiver) (byte : ℕ) (held : Held) (receive reply : List ℕ) (count : ℕ)
+    → AllHold (takeTests kindNumber settings socket (lent r held receive reply)) → stepOf (limit (kindOf kindNumber)) r byte .event ≡ event.SysEx count
+    → (let o = bodyDoes (kindOf kindNumber) settings socket (take count receive) held in
+    (takeOf kindNumber settings socket r byte held receive reply ≡ took (stepOf (limit (kindOf kindNumber)) r byte .receiver) (o .answer) (o .held) receive (written (o .sent) reply))
+    × Exactly (kindOf kindNumber) settings socket held (λ body. body ≡ take count receive) o)
 unfolding stepDoes messageDoes
-byte-call settings socket r byte held receive reply count all e = (
-  take-passed settings socket r byte held receive reply all ∙ (rw (e, sender socket (leb-true socket 1 (all .1 .1 .1 .0)))),
-  body-exactly settings socket held (take count receive),
+byte-call kindNumber settings socket r byte held receive reply count all e = (
+  take-passed kindNumber settings socket r byte held receive reply all ∙ (rw (e, sender socket (leb-true socket 1 (all .1 .1 .1 .1 .0)))),
+  body-exactly (kindOf kindNumber) settings socket held (take count receive),
 )

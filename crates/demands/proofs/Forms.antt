@@ -4,6 +4,7 @@ use mathlib.Core.Bool.{true}
 use mathlib.Core.List.{List, [], _∷_}
 use mathlib.Core.Path.{_≡_, refl, ap}
 use native.Mathlib.Omega.{arith}
+use lib.Dec.{leb}
 use lib.ListN.{length, drop, length-append}
 use borrow.Author.Tests.{le-ltb, le-leb}
 use Rattle.ground.specs.Lists.{allAtMost}
@@ -12,7 +13,10 @@ use Rattle.ground.proofs.InOrder.{tested-cases}
 use Rattle.ground.proofs.Tests.{both}
 use Rattle.halves.specs.HalfBytes.{split, join}
 use Rattle.halves.proofs.Laws.{length-split, join-split, split-halves}
-use Rattle.programs.specs.Memory.{programSize, memorySize}
+use Rattle.kinds.specs.declared.Kind.{Kind}
+use Rattle.kinds.specs.Kinds.{sizeOf, deviceOf}
+use Rattle.kinds.proofs.AnyKind.{size-bounds, device-low}
+use Rattle.programs.specs.Memory.{memorySize}
 use Rattle.programs.specs.Held.{Held, Target, One, Edit, All, placeFor, countFor}
 use Rattle.sysex.specs.declared.Settings.{Settings}
 use Rattle.sysex.specs.declared.Order.the-variants.{Refused}
@@ -20,6 +24,7 @@ use Rattle.sysex.specs.Forms.{typeFor, dataPlace, longest, requestBody, dumpBod
 use Rattle.sysex.specs.Judging.{hasForm, bodyOrder}
 use Rattle.sysex.specs.Carrying.{orderDoes, bodyDoes, answering, storing}
 use Rattle.sysex.specs.Formats.{There, IsDump, IsRequest, IsIdentity, sendOrder, storeOrder, Meant, unsaid}
+use Rattle.sysex.proofs.Parts.{program-inside}
 use Rattle.sysex.proofs.Understands.{passed-meant}
 use Rattle.podbox.specs.Messages.{messageDoes}
 use Rattle.podbox.specs.Whole.{isFramed, bodyOf, messageTests, messageOrder, handedDoes}
@@ -28,85 +33,89 @@ use Rattle.podbox.proofs.Frames.{frame, frame-body, frame-framed}
 use Rattle.podbox.proofs.Orders.{handed-does}
 
 -- what an order does, by what it names
-module _ (settings : Settings) (player : ℕ) where
-  pub store-does : (t : Target) (body : List ℕ) (held : Held) → orderDoes programSize settings player (storeOrder t) body held ≡ storing programSize player t body held
+module _ (kind : Kind) (settings : Settings) (player : ℕ) where
+  pub store-does : (t : Target) (body : List ℕ) (held : Held) → orderDoes kind settings player (storeOrder t) body held ≡ storing kind player t body held
   unfolding orderDoes
   store-does (One p) body held = refl
   store-does Edit body held = refl
   store-does All body held = refl
 
-  pub send-does : (t : Target) (body : List ℕ) (held : Held) → orderDoes programSize settings player (sendOrder t) body held ≡ answering programSize player t held
+  pub send-does : (t : Target) (body : List ℕ) (held : Held) → orderDoes kind settings player (sendOrder t) body held ≡ answering kind player t held
   unfolding orderDoes
   send-does (One p) body held = refl
   send-does Edit body held = refl
   send-does All body held = refl
 
 -- a dump's data, read off its body
-pub dump-data : (t : Target) (bytes : List ℕ) → join (drop (dataPlace (typeFor t)) (dumpBody t bytes)) ≡ bytes
-dump-data (One p) bytes = join-split bytes
-dump-data Edit bytes = join-split bytes
-dump-data All bytes = join-split bytes
+pub dump-data : (kind : Kind) (t : Target) (bytes : List ℕ) → join (drop (dataPlace (typeFor t)) (dumpBody kind t bytes)) ≡ bytes
+dump-data kind (One p) bytes = join-split bytes
+dump-data kind Edit bytes = join-split bytes
+dump-data kind All bytes = join-split bytes
 
 -- what is named lies in memory
-pub named-inside : (player : ℕ) (t : Target) → There t → placeFor programSize player t + countFor programSize t ≤ memorySize programSize
-named-inside player (One p) h = omega arith
-named-inside player Edit h = omega arith
-named-inside player All h = omega arith
+pub named-inside : (kind : Kind) (player : ℕ) (t : Target) → There t → placeFor kind player t + countFor kind t ≤ memorySize kind
+named-inside kind player (One p) h = let inside = program-inside (sizeOf kind) p h in omega arith
+named-inside kind player Edit h = omega arith
+named-inside kind player All h = omega arith
+
+-- a device byte is a data byte
+device : (kind : Kind) → leb (deviceOf kind) 0x7F ≡ true
+device kind = le-leb (deviceOf kind) 0x7F (device-low kind)
 
 -- a body that can be finished: F0, then data bytes, no more than are stored
-pub record Opens (body : List ℕ) : Type 0 where
+pub record Opens (kind : Kind) (body : List ℕ) : Type 0 where
   pub first : body ≡ 0xF0 ∷ drop 1 body
   pub low : allAtMost 0x7F (drop 1 body) ≡ true
-  pub short : length body ≤ limit
+  pub short : length body ≤ limit kind
 
-dump-short : (t : Target) (bytes : List ℕ) → length bytes ≡ countFor programSize t → length (dumpBody t bytes) ≤ limit
-dump-short (One p) bytes e = omega (arith, length-split bytes)
-dump-short Edit bytes e = omega (arith, length-split bytes)
-dump-short All bytes e = omega (arith, length-split bytes)
+dump-short : (kind : Kind) (t : Target) (bytes : List ℕ) → length bytes ≡ countFor kind t → length (dumpBody kind t bytes) ≤ limit kind
+dump-short kind (One p) bytes e = omega (arith, length-split bytes, size-bounds kind .0)
+dump-short kind Edit bytes e = omega (arith, length-split bytes, size-bounds kind .0)
+dump-short kind All bytes e = omega (arith, length-split bytes, size-bounds kind .0)
 
 -- a dump's message is no longer than the longest
-pub dump-fits : (t : Target) (bytes : List ℕ) → length bytes ≡ countFor programSize t → length (ended (dumpBody t bytes)) ≤ longest programSize
-dump-fits t bytes e = omega (arith, length-append (dumpBody t bytes) (0xF7 ∷ []), dump-short t bytes e)
+pub dump-fits : (kind : Kind) (t : Target) (bytes : List ℕ) → length bytes ≡ countFor kind t → length (ended (dumpBody kind t bytes)) ≤ longest kind
+dump-fits kind t bytes e = omega (arith, length-append (dumpBody kind t bytes) (0xF7 ∷ []), dump-short kind t bytes e)
 
-pub dump-opens : (t : Target) (bytes body : List ℕ) → IsDump programSize t bytes body → Opens body
-dump-opens t bytes body d =
-    rw (d .form) (go t (d .there) (at-most-more 0x0F 0x7F (omega arith) (split bytes) (split-halves bytes (d .whole-bytes))) (dump-short t bytes (d .count)))
+pub dump-opens : (kind : Kind) (t : Target) (bytes body : List ℕ) → IsDump kind t bytes body → Opens kind body
+dump-opens kind t bytes body d =
+    rw (d .form) (go t (d .there) (at-most-more 0x0F 0x7F (omega arith) (split bytes) (split-halves bytes (d .whole-bytes))) (dump-short kind t bytes (d .count)))
   where
-    go : (t : Target) → There t → allAtMost 0x7F (split bytes) ≡ true → length (dumpBody t bytes) ≤ limit → Opens (dumpBody t bytes)
-    go (One p) h low few = record { first = refl; low = rw (le-leb p 0x7F (omega arith)) low; short = few }
-    go Edit h low few = record { first = refl; low = low; short = few }
-    go All h low few = record { first = refl; low = low; short = few }
+    go : (t : Target) → There t → allAtMost 0x7F (split bytes) ≡ true → length (dumpBody kind t bytes) ≤ limit kind → Opens kind (dumpBody kind t bytes)
+    go (One p) h low few = record { first = refl; low = rw (device kind, le-leb p 0x7F (omega arith)) low; short = few }
+    go Edit h low few = record { first = refl; low = rw (device kind) low; short = few }
+    go All h low few = record { first = refl; low = rw (device kind) low; short = few }
 
-pub request-opens : (t : Target) (body : List ℕ) → IsRequest t body → Opens body
-request-opens t body q = rw (q .form) (go t (q .there))
+pub request-opens : (kind : Kind) (t : Target) (body : List ℕ) → IsRequest kind t body → Opens kind body
+request-opens kind t body q = rw (q .form) (go t (q .there))
   where
-    go : (t : Target) → There t → Opens (requestBody t)
-    go (One p) h = record { first = refl; low = rw (le-leb p 0x7F (omega arith)); short = omega arith }
-    go Edit h = record { first = refl; low = refl; short = omega arith }
-    go All h = record { first = refl; low = refl; short = omega arith }
+    go : (t : Target) → There t → Opens kind (requestBody kind t)
+    go (One p) h = record { first = refl; low = rw (device kind, le-leb p 0x7F (omega arith)); short = omega (arith, size-bounds kind .0) }
+    go Edit h = record { first = refl; low = rw (device kind); short = omega (arith, size-bounds kind .0) }
+    go All h = record { first = refl; low = rw (device kind); short = omega (arith, size-bounds kind .0) }
 
-pub identity-opens : (settings : Settings) (cc : ℕ) (body : List ℕ) → IsIdentity settings cc body → Opens body
-identity-opens settings cc body i = rw (i .form) (record { first = refl; low = rw (le-leb cc 0x7F (i .low)); short = omega arith })
+pub identity-opens : (kind : Kind) (settings : Settings) (cc : ℕ) (body : List ℕ) → IsIdentity settings cc body → Opens kind body
+identity-opens kind settings cc body i = rw (i .form) (record { first = refl; low = rw (le-leb cc 0x7F (i .low)); short = omega (arith, size-bounds kind .0) })
 
-module _ (settings : Settings) where
+module _ (kind : Kind) (settings : Settings) where
   -- a message that is such a body and F7 does what its body does
-  pub ended-does : (player : ℕ) (body : List ℕ) (held : Held) → Opens body → handedDoes settings player (ended body) held ≡ bodyDoes programSize settings player body held
+  pub ended-does : (player : ℕ) (body : List ℕ) (held : Held) → Opens kind body → handedDoes kind settings player (ended body) held ≡ bodyDoes kind settings player body held
   unfolding messageDoes
   ended-does player body held o =
       let rest = drop 1 body in
       let few = o .short in
       let same : length body ≡ length (0xF0 ∷ rest) = ap (λ (b : List ℕ). length b) (o .first) in
       rw (o .first) (rw (
-        handed-does settings (frame rest) player held,
-        le-ltb (longest programSize) (length (frame rest)) (omega (arith, length-append rest (0xF7 ∷ []))),
+        handed-does kind settings (frame rest) player held,
+        le-ltb (longest kind) (length (frame rest)) (omega (arith, length-append rest (0xF7 ∷ []))),
         frame-framed rest (o .low),
         frame-body rest,
       ))
 
   -- a message with an order is of that order's format
-  pub message-meant : (message : List ℕ) → Meant programSize settings (bodyOf message) (messageOrder settings message)
+  pub message-meant : (message : List ℕ) → Meant kind settings (bodyOf message) (messageOrder kind settings message)
   unfolding messageOrder
   message-meant message =
-      tested-cases (Meant programSize settings (bodyOf message)) (messageTests settings message) Refused (bodyOrder (bodyOf message))
-      (λ a. passed-meant programSize settings (bodyOf message) (both (isFramed message) (hasForm (bodyOf message)) (a .1 .0) .1, a .1 .1))
+      tested-cases (Meant kind settings (bodyOf message)) (messageTests kind settings message) Refused (bodyOrder (bodyOf message))
+      (λ a. passed-meant kind settings (bodyOf message) (both (isFramed message) (hasForm kind (bodyOf message)) (a .1 .0) .1, a .1 .1))
       (λ check _. unsaid check)

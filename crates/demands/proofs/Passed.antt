@@ -6,6 +6,7 @@ use native.Mathlib.Omega.{arith}
 use Rattle.ground.specs.Tests.{AllHold}
 use Rattle.ground.specs.Calls.{left, leaves}
 use Rattle.ground.proofs.InOrder.{first-named, tested-cases, tested-passed}
+use Rattle.kinds.specs.Kinds.{kindOf}
 use Rattle.programs.specs.Held.{Held}
 use Rattle.framing.specs.declared.Receiver.{Receiver}
 use Rattle.framing.specs.Bytes.{stepOf}
@@ -17,35 +18,35 @@ use Rattle.sysex.specs.Numbers.{refused}
 use Rattle.podbox.specs.Whole.{handedDoes}
 use Rattle.podbox.specs.Box.{Took, limit, panel, boxRules, plainAnswer, takeTests, wholeTests, takeOf, wholeOf}
 
-module _ (settings : Settings) (socket : ℕ) (r : Receiver) (byte : ℕ) (held : Held) (receive reply : List ℕ) where
+module _ (kindNumber : ℕ) (settings : Settings) (socket : ℕ) (r : Receiver) (byte : ℕ) (held : Held) (receive reply : List ℕ) where
   abbrev stepped : Took
-  stepped = stepDoes (boxRules settings) (socketOf socket) byte (lent r held receive reply) (stepOf limit r byte)
+  stepped = stepDoes (boxRules kindNumber settings) (socketOf socket) byte (lent r held receive reply) (stepOf (limit (kindOf kindNumber)) r byte)
 
-  pub take-passed : AllHold (takeTests settings socket (lent r held receive reply)) → takeOf settings socket r byte held receive reply ≡ stepped
+  pub take-passed : AllHold (takeTests kindNumber settings socket (lent r held receive reply)) → takeOf kindNumber settings socket r byte held receive reply ≡ stepped
   unfolding byteOf
-  take-passed = tested-passed (takeTests settings socket (lent r held receive reply)) (λ number. took r (plainAnswer number) held receive reply) stepped
+  take-passed = tested-passed (takeTests kindNumber settings socket (lent r held receive reply)) (λ number. took r (plainAnswer number) held receive reply) stepped
 
   -- whatever holds of a call that is turned away, and of one that is taken, holds of the call
   pub take-cases : (P : Took → Type 0) → ((number : ℕ) → 30 ≤ number → number ≤ 32 → P (took r (refused number) held receive reply))
-      → (AllHold (takeTests settings socket (lent r held receive reply)) → P stepped) → P (takeOf settings socket r byte held receive reply)
+      → (AllHold (takeTests kindNumber settings socket (lent r held receive reply)) → P stepped) → P (takeOf kindNumber settings socket r byte held receive reply)
   unfolding byteOf
   take-cases P away when-stepped =
       let Away : ℕ → Type 0 = λ number. P (took r (plainAnswer number) held receive reply) in
       let thirty = away 30 (omega arith) (omega arith) in
       let last = away 32 (omega arith) (omega arith) in
-      tested-cases P (takeTests settings socket (lent r held receive reply)) (λ number. took r (plainAnswer number) held receive reply) stepped when-stepped
+      tested-cases P (takeTests kindNumber settings socket (lent r held receive reply)) (λ number. took r (plainAnswer number) held receive reply) stepped when-stepped
       (λ number f. first-named Away f
-      ((λ _. thirty), (λ _. ((λ _. thirty), (λ _. ((λ _. thirty), (λ _. ((λ _. away 31 (omega arith) (omega arith)), (λ _. ((λ _. last), (λ _. ((λ _. last), (λ _. tt)))))))))))))
+      ((λ _. last), (λ _. ((λ _. thirty), (λ _. ((λ _. thirty), (λ _. ((λ _. thirty), (λ _. ((λ _. away 31 (omega arith) (omega arith)), (λ _. ((λ _. last), (λ _. ((λ _. last), (λ _. tt)))))))))))))))
 
-module _ (settings : Settings) (message : List ℕ) (held : Held) (reply : List ℕ) where
-  pub whole-passed : AllHold (wholeTests settings held reply) → wholeOf settings message held reply ≡ leaves (handedDoes settings panel message held) reply
+module _ (kindNumber : ℕ) (settings : Settings) (message : List ℕ) (held : Held) (reply : List ℕ) where
+  pub whole-passed : AllHold (wholeTests kindNumber settings held reply) → wholeOf kindNumber settings message held reply ≡ leaves (handedDoes (kindOf kindNumber) settings panel message held) reply
   unfolding directOf
-  whole-passed = tested-passed (wholeTests settings held reply) (λ number. left (plainAnswer number) held reply) (leaves (handedDoes settings panel message held) reply)
+  whole-passed = tested-passed (wholeTests kindNumber settings held reply) (λ number. left (plainAnswer number) held reply) (leaves (handedDoes (kindOf kindNumber) settings panel message held) reply)
 
   pub whole-cases : (P : Left → Type 0) → P (left (refused 30) held reply) → P (left (refused 32) held reply)
-      → (AllHold (wholeTests settings held reply) → P (leaves (handedDoes settings panel message held) reply)) → P (wholeOf settings message held reply)
+      → (AllHold (wholeTests kindNumber settings held reply) → P (leaves (handedDoes (kindOf kindNumber) settings panel message held) reply)) → P (wholeOf kindNumber settings message held reply)
   unfolding directOf
   whole-cases P short invalid when-stepped =
       let Away : ℕ → Type 0 = λ number. P (left (plainAnswer number) held reply) in
-      tested-cases P (wholeTests settings held reply) (λ number. left (plainAnswer number) held reply) (leaves (handedDoes settings panel message held) reply) when-stepped
-      (λ number f. first-named Away f ((λ _. short), (λ _. ((λ _. short), (λ _. ((λ _. invalid), (λ _. tt)))))))
+      tested-cases P (wholeTests kindNumber settings held reply) (λ number. left (plainAnswer number) held reply) (leaves (handedDoes (kindOf kindNumber) settings panel message held) reply) when-stepped
+      (λ number f. first-named Away f ((λ _. invalid), (λ _. ((λ _. short), (λ _. ((λ _. short), (λ _. ((λ _. invalid), (λ _. tt)))))))))

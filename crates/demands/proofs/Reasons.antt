@@ -11,7 +11,10 @@ use Rattle.ground.specs.Tests.{FirstToFail}
 use Rattle.ground.specs.Calls.{leaves}
 use Rattle.ground.proofs.InOrder.{Names, first-named, tested-cases}
 use Rattle.ground.proofs.Tests.{both, by}
-use Rattle.programs.specs.Memory.{programSize, memorySize, lastProgram}
+use Rattle.kinds.specs.declared.Kind.{Kind}
+use Rattle.kinds.specs.Kinds.{numberOf}
+use Rattle.kinds.proofs.AnyKind.{kind-numbered}
+use Rattle.programs.specs.Memory.{memorySize, lastProgram}
 use Rattle.programs.specs.Held.{Held}
 use Rattle.sysex.specs.declared.Check.{Check}
 use Rattle.sysex.specs.declared.Order.the-variants.{Refused}
@@ -26,10 +29,10 @@ use Rattle.podbox.specs.Box.{panel, wholeOf}
 use Rattle.demands.specs.Reasons.{Because, fails, passes, Missed, most, ours, known, whole, numbered, versioned, halved, channelled}
 use Rattle.demands.proofs.Passed.{whole-passed}
 
-because : (message : List ℕ) → Because message (reasonOf message)
+because : (kind : Kind) (message : List ℕ) → Because kind message (reasonOf kind message)
 unfolding messageOrder
-because message =
-    tested-cases (Because message) (messageTests freshSettings message) Refused (bodyOrder (bodyOf message))
+because kind message =
+    tested-cases (Because kind message) (messageTests kind freshSettings message) Refused (bodyOrder (bodyOf message))
     (λ a. passes (bodyOrder (bodyOf message)) a (passed-done (bodyOf message)))
     fails
 
@@ -38,18 +41,21 @@ unfolding isValid freshSettings
 fresh-valid = refl
 
 -- What is said is what is done: a box with these settings does what the reason names, whatever it holds.
-pub reason-done : (message : List ℕ) (held : Held) (reply : List ℕ) → memorySize programSize ≤ length (held .memory) → longest programSize ≤ length reply
-    → wholeOf freshSettings message held reply ≡ leaves (orderDoes programSize freshSettings panel (reasonOf message) (bodyOf message) held) reply
-reason-done message held reply m r = whole-passed freshSettings message held reply (le-leb _ _ m, (le-leb _ _ r, (fresh-valid, tt)))
+pub reason-done : (kind : Kind) (message : List ℕ) (held : Held) (reply : List ℕ) → memorySize kind ≤ length (held .memory) → longest kind ≤ length reply
+    → wholeOf (numberOf kind) freshSettings message held reply ≡ leaves (orderDoes kind freshSettings panel (reasonOf kind message) (bodyOf message) held) reply
+reason-done kind message held reply m r =
+    let known = kind-numbered kind in
+    whole-passed (numberOf kind) freshSettings message held reply (known .0, (rw (known .1) (le-leb _ _ m), (rw (known .1) (le-leb _ _ r), (fresh-valid, tt))))
+    ∙ ap (λ (k : Kind). leaves (orderDoes k freshSettings panel (reasonOf k message) (bodyOf message) held) reply) (known .1)
 
 -- "and a fresh box set as the listing program's, handed the message whole, returns that number"
-pub reason-true : (message reply : List ℕ) → longest programSize ≤ length reply
-    → Because message (reasonOf message) × (answerNumber (wholeOf freshSettings message freshHeld reply .answer) ≡ orderNumber (reasonOf message))
+pub reason-true : (kind : Kind) (message reply : List ℕ) → longest kind ≤ length reply
+    → Because kind message (reasonOf kind message) × (answerNumber (wholeOf (numberOf kind) freshSettings message (freshHeld kind) reply .answer) ≡ orderNumber (reasonOf kind message))
 unfolding freshHeld
-reason-true message reply r = (
-  because message,
-  ap (λ (l : Left). answerNumber (l .answer)) (reason-done message freshHeld reply (omega (arith, length-replicate {A = ℕ} (memorySize programSize) 0)) r)
-      ∙ does-number programSize freshSettings panel (bodyOf message) freshHeld (reasonOf message),
+reason-true kind message reply r = (
+  because kind message,
+  ap (λ (l : Left). answerNumber (l .answer)) (reason-done kind message (freshHeld kind) reply (omega (arith, length-replicate {A = ℕ} (memorySize kind) 0)) r)
+      ∙ does-number kind freshSettings panel (bodyOf message) (freshHeld kind) (reasonOf kind message),
 )
 
 -- a program that is not there, and a channel that is not ours
@@ -65,17 +71,17 @@ other : (channel : ℕ) → isOurChannel freshSettings channel ≡ false → (ch
 unfolding isOurChannel freshSettings
 other channel e = (λ z. absurd (true≢false (rw (eq-eqb channel 0 z) at e)), λ z. absurd (true≢false (rw z at e)))
 
-module _ (message : List ℕ) where
+module _ (kind : Kind) (message : List ℕ) where
   abbrev body : List ℕ
   body = bodyOf message
 
-  whole-missed : hasLength programSize body ≡ false → length message ≡ wholeLength programSize (opcodeOf body) (typeOf body) → ⊥
-  whole-missed e l = eqb-false (length body) (bodyLength programSize (opcodeOf body) (typeOf body)) e (omega (arith, length-take (length message - 1) message))
+  whole-missed : hasLength kind body ≡ false → length message ≡ wholeLength kind (opcodeOf body) (typeOf body) → ⊥
+  whole-missed e l = eqb-false (length body) (bodyLength kind (opcodeOf body) (typeOf body)) e (omega (arith, length-take (length message - 1) message))
 
   is-dump : opcodeOf body ≤ dump → eqb (opcodeOf body) request ≡ false → opcodeOf body ≡ dump
   is-dump small d = let some = eqb-false (opcodeOf body) request d in omega arith
 
-  form-missed : Names (Missed message) (formTests programSize body)
+  form-missed : Names (Missed kind message) (formTests kind body)
   form-missed = (
     known,
     (λ k.
@@ -85,20 +91,20 @@ module _ (message : List ℕ) where
           (λ e. whole opcode type (whole-missed e)),
           (λ _. (
             (λ e. let a = above (typeOf body) (programOf body) e in numbered opcode (a .0) (a .1)),
-            (λ _. by (Names (Missed message)) (eqb (opcodeOf body) request) _ _ (λ _. tt)
+            (λ _. by (Names (Missed kind message)) (eqb (opcodeOf body) request) _ _ (λ _. tt)
                 (λ d. ((λ e. versioned (is-dump opcode d) type (eqb-false _ 0 e)), (λ _. (halved (is-dump opcode d) type, (λ _. tt)))))),
           )),
         )),
   )
 
-  pub missed : (check : Check) → FirstToFail (messageTests freshSettings message) check → Missed message check
+  pub missed : (check : Check) → FirstToFail (messageTests kind freshSettings message) check → Missed kind message check
   unfolding furtherTests freshSettings
   missed check first =
-      first-named (Missed message) first (
-        (λ e. most (leb-false (length message) (longest programSize) e)),
+      first-named (Missed kind message) first (
+        (λ e. most (leb-false (length message) (longest kind) e)),
         (λ _. (
           ours,
-          (λ _. by (Names (Missed message)) (isIdentity body) _ _
+          (λ _. by (Names (Missed kind message)) (isIdentity body) _ _
               (λ i. ((λ e. let o = other (getD body 2 0) e in channelled i (o .0) (o .1)), (λ _. tt)))
               (λ _. form-missed)),
         )),

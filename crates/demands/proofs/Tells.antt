@@ -3,8 +3,9 @@ use Prim.Native.Nat.{ℕ}
 use mathlib.Core.List.{List}
 use mathlib.Core.Path.{_≡_, refl}
 use lib.ListN.{length}
+use Rattle.ground.proofs.Tests.{by}
 use Rattle.ground.proofs.InOrder.{tested-cases}
-use Rattle.programs.specs.Memory.{programSize}
+use Rattle.kinds.specs.declared.Kind.{Kind}
 use Rattle.programs.specs.Held.{Held, Edit, bytesIn}
 use Rattle.controls.specs.declared.Change.{Change}
 use Rattle.controls.specs.declared.Change.the-variants as change
@@ -16,7 +17,7 @@ use Rattle.sysex.specs.declared.Order.the-variants.{Identify, SendProgram, Send
 use Rattle.sysex.specs.Numbers.{answerLength}
 use Rattle.sysex.specs.Judging.{judgeOf}
 use Rattle.sysex.specs.Carrying.{Outcome, refusing, orderDoes}
-use Rattle.podbox.specs.Messages.{channelTests, changeAnswer, controllerDoes, channelDoes, messageDoes}
+use Rattle.podbox.specs.Messages.{isController, channelTests, changeAnswer, channelDoes, messageDoes}
 
 -- whatever the box holds
 abbrev pub Tells : Outcome → Type 0
@@ -26,10 +27,10 @@ change-tells : (c : Change) → answerLength (changeAnswer c) ≡ 0
 change-tells change.Applied = refl
 change-tells (change.Refused number) = refl
 
-module _ (settings : Settings) (player : ℕ) (held : Held) where
-  pub order-tells : (o : Order) (body : List ℕ) → Tells (orderDoes programSize settings player o body held)
+module _ (kind : Kind) (settings : Settings) (player : ℕ) (held : Held) where
+  pub order-tells : (o : Order) (body : List ℕ) → Tells (orderDoes kind settings player o body held)
   unfolding orderDoes
-  order-tells (Identify cc) body = refl
+  order-tells (Identify channel) body = refl
   order-tells (SendProgram p) body = refl
   order-tells SendEdit body = refl
   order-tells SendAll body = refl
@@ -38,10 +39,11 @@ module _ (settings : Settings) (player : ℕ) (held : Held) where
   order-tells StoreAll body = refl
   order-tells (Refused check) body = refl
 
-  pub message-tells : (m : Message) → Tells (messageDoes settings player held m)
+  pub message-tells : (m : Message) → Tells (messageDoes kind settings player held m)
   unfolding messageDoes channelDoes
-  message-tells (SysEx body) = order-tells (judgeOf programSize settings body) body
+  message-tells (SysEx body) = order-tells (judgeOf kind settings body) body
   message-tells TooLong = refl
   message-tells (Channel status first second) =
-      tested-cases Tells (channelTests settings status) (refusing held) (controllerDoes player first second held)
-      (λ _. change-tells (applyOf first second (bytesIn programSize player Edit held) .answer)) (λ number _. refl)
+      tested-cases Tells (channelTests kind settings status first) (refusing held) _
+      (λ _. by Tells (isController status) _ _ (λ _. change-tells (applyOf kind first second (bytesIn kind player Edit held) .answer)) (λ _. refl))
+      (λ number _. refl)

@@ -6,7 +6,8 @@ use mathlib.Core.Path.{_≡_, refl}
 use native.Mathlib.Omega.{arith}
 use borrow.Author.Tests.{leb-true}
 use Rattle.ground.proofs.InOrder.{tested-cases}
-use Rattle.programs.specs.Memory.{programSize}
+use Rattle.kinds.specs.declared.Kind.{Kind}
+use Rattle.kinds.specs.Kinds.{kindOf}
 use Rattle.programs.specs.Held.{Held, Edit, bytesIn}
 use Rattle.controls.specs.declared.Reading.{Reading}
 use Rattle.controls.specs.declared.Reading.the-variants as reading
@@ -22,16 +23,17 @@ use Rattle.sysex.specs.declared.Answer.{Answer}
 use Rattle.sysex.specs.Forms.{longest}
 use Rattle.sysex.specs.Numbers.{answerNumber, answerLength}
 use Rattle.sysex.specs.Carrying.{heldTest}
-use Rattle.podbox.specs.Box.{panel, takeOf, wholeOf}
-use Rattle.costerbloom.specs.Numbers.{packed, readingNumber, takeNumbers, wholeNumbers, scaleNumber, memoryBack, backNumber}
+use Rattle.sysex.proofs.Lengths.{longest-bounds}
+use Rattle.podbox.specs.Box.{kindTest, panel, takeOf, wholeOf}
+use Rattle.costerbloom.specs.Numbers.{packed, readingNumber, takeNumbers, wholeNumbers, numberScale, scaleNumber, memoryBack, numberBack, backNumber}
 use Rattle.demands.specs.Answered.{ByteNumber, PanelNumber}
 use Rattle.demands.specs.Told.{Told, Apart}
 use Rattle.demands.proofs.EveryCall.{every-byte, every-message}
 
 -- an answer's parts have room in their bits
-told : (answer : Answer) → answerNumber answer < 256 → answerLength answer ≤ longest programSize → Told answer (packed answer)
+told : (kind : Kind) (answer : Answer) → answerNumber answer < 256 → answerLength answer ≤ longest kind → Told answer (packed answer)
 unfolding packed
-told answer small short = (omega arith, omega arith, omega arith)
+told kind answer small short = let most = longest-bounds kind .1 in (omega arith, omega arith, omega arith)
 
 byte-small : (number : ℕ) → ByteNumber number → number < 256
 byte-small number = ⊎-elim (λ h. omega arith) (⊎-elim (λ h. omega arith) (λ h. omega arith))
@@ -40,34 +42,44 @@ panel-small : (number : ℕ) → PanelNumber number → number < 256
 panel-small number =
     ⊎-elim (λ h. omega arith) (⊎-elim (λ h. omega arith) (⊎-elim (λ h. omega arith) (⊎-elim (λ h. omega arith) (⊎-elim (λ h. omega arith) (λ h. omega arith)))))
 
-pub take-told : (settings : Settings) (socket : ℕ) (receiver : Receiver) (byte : ℕ) (held : Held) (receive reply : List ℕ)
-    → Told (takeOf settings socket receiver byte held receive reply .answer) (takeNumbers settings socket receiver byte held receive reply .answer)
+pub take-told : (kindNumber : ℕ) (settings : Settings) (socket : ℕ) (receiver : Receiver) (byte : ℕ) (held : Held) (receive reply : List ℕ)
+    → Told (takeOf kindNumber settings socket receiver byte held receive reply .answer) (takeNumbers kindNumber settings socket receiver byte held receive reply .answer)
 unfolding takeNumbers
-take-told settings socket receiver byte held receive reply =
-    let a = every-byte settings receiver byte held receive reply socket in
-    told _ (byte-small _ (a .numbered)) (a .confined .fits)
+take-told kindNumber settings socket receiver byte held receive reply =
+    let a = every-byte kindNumber settings receiver byte held receive reply socket in
+    told (kindOf kindNumber) _ (byte-small _ (a .numbered)) (a .confined .fits)
 
-pub whole-told : (settings : Settings) (message : List ℕ) (held : Held) (reply : List ℕ)
-    → Told (wholeOf settings message held reply .answer) (wholeNumbers settings message held reply .answer)
+pub whole-told : (kindNumber : ℕ) (settings : Settings) (message : List ℕ) (held : Held) (reply : List ℕ)
+    → Told (wholeOf kindNumber settings message held reply .answer) (wholeNumbers kindNumber settings message held reply .answer)
 unfolding wholeNumbers
-whole-told settings message held reply = let a = every-message settings message held reply in told _ (panel-small _ (a .numbered)) (a .confined .fits)
+whole-told kindNumber settings message held reply = let a = every-message kindNumber settings message held reply in told (kindOf kindNumber) _ (panel-small _ (a .numbered)) (a .confined .fits)
 
-pub scale-apart : (controller value : ℕ) → Apart (scaleOf controller value) (scaleNumber controller value)
-unfolding scaleNumber scaleOf readingNumber
-scale-apart controller value =
-    let r = rowOf controller in
+scaled-apart : (kind : Kind) (controller value : ℕ) → Apart (scaleOf kind controller value) (readingNumber (scaleOf kind controller value))
+unfolding scaleOf readingNumber
+scaled-apart kind controller value =
+    let r = rowOf kind controller in
     tested-cases (λ (x : Reading). Apart x (readingNumber x)) (scaleTests r value) reading.Refused (reading.Value (numberFor r value))
-    (λ all. (refl, number-low controller value (leb-true value (r .highest) (all .1 .1 .1 .0))))
+    (λ all. (refl, number-low kind controller value (leb-true value (r .highest) (all .1 .1 .1 .0))))
     (λ number _. refl)
 
-shown-apart : (controller : ℕ) (edit : List ℕ) (x : Reading) → backOf controller edit ≡ x → Apart x (readingNumber x)
-unfolding readingNumber
-shown-apart controller edit (reading.Value value) e = let low = row-sane controller .low in let within = shown-smallest controller edit value e .1 .within in (refl, omega arith)
-shown-apart controller edit (reading.Refused number) e = refl
+pub scale-apart : (kindNumber controller value : ℕ) → Apart (numberScale kindNumber controller value) (scaleNumber kindNumber controller value)
+unfolding scaleNumber numberScale readingNumber
+scale-apart kindNumber controller value =
+    tested-cases (λ (x : Reading). Apart x (readingNumber x)) (kindTest kindNumber ∷ []) reading.Refused (scaleOf (kindOf kindNumber) controller value)
+    (λ _. scaled-apart (kindOf kindNumber) controller value)
+    (λ number _. refl)
 
-pub back-apart : (controller : ℕ) (held : Held) → Apart (memoryBack controller held) (backNumber controller held)
-unfolding backNumber memoryBack readingNumber
-back-apart controller held =
-    tested-cases (λ (x : Reading). Apart x (readingNumber x)) (heldTest programSize held ∷ []) reading.Refused (backOf controller (bytesIn programSize panel Edit held))
-    (λ _. shown-apart controller (bytesIn programSize panel Edit held) _ refl)
+shown-apart : (kind : Kind) (controller : ℕ) (edit : List ℕ) (x : Reading) → backOf kind controller edit ≡ x → Apart x (readingNumber x)
+unfolding readingNumber
+shown-apart kind controller edit (reading.Value value) e =
+    let low = row-sane kind controller .low in let within = shown-smallest kind controller edit value e .1 .within in (refl, omega arith)
+shown-apart kind controller edit (reading.Refused number) e = refl
+
+pub back-apart : (kindNumber controller : ℕ) (held : Held) → Apart (numberBack kindNumber controller held) (backNumber kindNumber controller held)
+unfolding backNumber numberBack memoryBack readingNumber
+back-apart kindNumber controller held =
+    let kind = kindOf kindNumber in
+    let edit = bytesIn kind panel Edit held in
+    tested-cases (λ (x : Reading). Apart x (readingNumber x)) (kindTest kindNumber ∷ heldTest kind held ∷ []) reading.Refused (backOf kind controller edit)
+    (λ _. shown-apart kind controller edit _ refl)
     (λ number _. refl)

@@ -13,6 +13,11 @@ isKind number = leb number 1
 unfoldable pub kindOf : ℕ → Kind
 kindOf number = cond (eqb number 1) BassPod Pod
 
+-- the number of a kind
+unfoldable pub numberOf : Kind → ℕ
+numberOf Pod = 0
+numberOf BassPod = 1
+
 -- "72 bytes each"; "80 data bytes a program"
 unfoldable pub sizeOf : Kind → ℕ
 sizeOf Pod = 72

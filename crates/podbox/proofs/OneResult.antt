@@ -15,14 +15,14 @@ use Rattle.sysex.specs.declared.Order.{Order}
 use Rattle.podbox.specs.Whole.{reasonOf}
 use Rattle.podbox.specs.Box.{takeOf, wholeOf}
 
-pub whole-message-one : (kind : ℕ) (settings : Settings) (message : List ℕ) (held : Held) (reply : List ℕ) (a b : Answer) (m n : Held) (x y : List ℕ)
-    → left a m x ≡ wholeOf kind settings message held reply → left b n y ≡ wholeOf kind settings message held reply → (a ≡ b) × (m ≡ n) × (x ≡ y)
-whole-message-one kind settings message held reply a b m n x y = left-one
+pub whole-message-one : (kindNumber : ℕ) (settings : Settings) (message : List ℕ) (held : Held) (reply : List ℕ) (a b : Answer) (m n : Held) (x y : List ℕ)
+    → left a m x ≡ wholeOf kindNumber settings message held reply → left b n y ≡ wholeOf kindNumber settings message held reply → (a ≡ b) × (m ≡ n) × (x ≡ y)
+whole-message-one kindNumber settings message held reply a b m n x y = left-one
 
 pub reason-one : (kind : Kind) (message : List ℕ) (r s : Order) → r ≡ reasonOf kind message → s ≡ reasonOf kind message → r ≡ s
 reason-one kind message r s = one
 
-pub take-byte-one : (kind : ℕ) (settings : Settings) (socket : ℕ) (receiver : Receiver) (byte : ℕ) (held : Held) (receive reply : List ℕ) (r s : Receiver) (a b : Answer) (m n : Held) (x y o p : List ℕ)
-    → took r a m x o ≡ takeOf kind settings socket receiver byte held receive reply → took s b n y p ≡ takeOf kind settings socket receiver byte held receive reply
+pub take-byte-one : (kindNumber : ℕ) (settings : Settings) (socket : ℕ) (receiver : Receiver) (byte : ℕ) (held : Held) (receive reply : List ℕ) (r s : Receiver) (a b : Answer) (m n : Held) (x y o p : List ℕ)
+    → took r a m x o ≡ takeOf kindNumber settings socket receiver byte held receive reply → took s b n y p ≡ takeOf kindNumber settings socket receiver byte held receive reply
     → (r ≡ s) × (a ≡ b) × (m ≡ n) × (x ≡ y) × (o ≡ p)
-take-byte-one kind settings socket receiver byte held receive reply r s a b m n x y o p = took-one
+take-byte-one kindNumber settings socket receiver byte held receive reply r s a b m n x y o p = took-one

@@ -31,7 +31,7 @@ limit kind = longest kind - 1
 
 -- 32 "a kind that is neither gives 32, just before 30"
 abbrev pub kindTest : ℕ → Test ℕ
-kindTest number = test 32 (isKind number)
+kindTest kindNumber = test 32 (isKind kindNumber)
 
 -- 32 "a setting out of its range"
 abbrev pub settingsTest : Settings → Test ℕ
@@ -48,14 +48,14 @@ lentTests kind settings socket entry =
     ∷ test 31 (leb socket 1) ∷ readyTests kind settings (entry .receiver)
 
 abbrev pub takeTests : ℕ → Settings → ℕ → Lent Held → List (Test ℕ)
-takeTests number settings socket entry = kindTest number ∷ lentTests (kindOf number) settings socket entry
+takeTests kindNumber settings socket entry = kindTest kindNumber ∷ lentTests (kindOf kindNumber) settings socket entry
 
 -- a whole message "has no socket and no receiver: 30 for the memory or the reply buffer, 32 for a setting"
 abbrev pub handedTests : Kind → Settings → Held → List ℕ → List (Test ℕ)
 handedTests kind settings held reply = heldTest kind held ∷ bufferTest kind reply ∷ settingsTest settings ∷ []
 
 abbrev pub wholeTests : ℕ → Settings → Held → List ℕ → List (Test ℕ)
-wholeTests number settings held reply = kindTest number ∷ handedTests (kindOf number) settings held reply
+wholeTests kindNumber settings held reply = kindTest kindNumber ∷ handedTests (kindOf kindNumber) settings held reply
 
 -- the panel's messages are those of socket 0's player
 abbrev pub panel : ℕ
@@ -97,15 +97,15 @@ rulesWith tests testsDirect kind settings = record {
 
 -- of a box whose calls bring the number of its kind
 abbrev pub boxRules : ℕ → Settings → Rules
-boxRules number settings = rulesWith (takeTests number settings) (wholeTests number settings) (kindOf number) settings
+boxRules kindNumber settings = rulesWith (takeTests kindNumber settings) (wholeTests kindNumber settings) (kindOf kindNumber) settings
 
 abbrev pub Took : Type 0
 Took = any.Took Held Answer
 
 -- one byte on one socket: it promises what the laws of two sockets ask of a byte call
 abbrev pub takeOf : ℕ → Settings → ℕ → Receiver → ℕ → Held → List ℕ → List ℕ → Took
-takeOf number settings socket receiver byte held receive reply = byteOf (boxRules number settings) socket byte (lent receiver held receive reply)
+takeOf kindNumber settings socket receiver byte held receive reply = byteOf (boxRules kindNumber settings) socket byte (lent receiver held receive reply)
 
 -- a whole message
 abbrev pub wholeOf : ℕ → Settings → List ℕ → Held → List ℕ → Left
-wholeOf number settings message held reply = directOf (boxRules number settings) message held reply
+wholeOf kindNumber settings message held reply = directOf (boxRules kindNumber settings) message held reply

@@ -5,7 +5,7 @@ use mathlib.Core.Path.{_≡_, refl}
 use native.Mathlib.Omega.{arith}
 use Rattle.kinds.specs.declared.Kind.{Kind}
 use Rattle.kinds.specs.Kinds.{sizeOf, largest, namePlace}
-use Rattle.kinds.proofs.Sizes.{size-bounds}
+use Rattle.kinds.proofs.AnyKind.{size-bounds}
 use Rattle.programs.specs.Memory.{programCount}
 use Rattle.sysex.specs.Forms.{bodyLength, longest}
 use Rattle.sysex.specs.Lengths.{Lengths, lengths, derived}

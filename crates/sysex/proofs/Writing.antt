@@ -12,7 +12,7 @@ use Rattle.halves.specs.HalfBytes.{split}
 use Rattle.halves.proofs.Laws.{length-split}
 use Rattle.kinds.specs.declared.Kind.{Kind}
 use Rattle.kinds.specs.Kinds.{headerOf, identityOf}
-use Rattle.kinds.proofs.Sizes.{identity-bytes}
+use Rattle.kinds.proofs.AnyKind.{identity-bytes}
 use Rattle.programs.specs.Memory.{putPart}
 use Rattle.sysex.specs.declared.Settings.{Settings}
 use Rattle.sysex.specs.Forms.{dump, version, dumpStart, identityReply, ended}

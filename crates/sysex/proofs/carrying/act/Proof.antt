@@ -7,7 +7,7 @@ use native.Mathlib.Omega.{arith}
 use Rattle.ground.specs.Calls.{left}
 use Rattle.sysex.specs.Carrying.{orderDoes}
 use Rattle.sysex.specs.Private.{partSent}
-use Rattle.kinds.proofs.Sizes.{size-bounds}
+use Rattle.kinds.proofs.AnyKind.{size-bounds}
 use Rattle.programs.specs.Held.{heldOf}
 use Rattle.sysex.specs.declared.Answer.the-variants.{Sent}
 use Rattle.sysex.proofs.Parts.{program-inside}

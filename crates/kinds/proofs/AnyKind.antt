@@ -1,12 +1,27 @@
 -- Laws of what hangs on a kind, for any kind: whoever stands on `kinds` cites these, and looks at no kind.
-use Prim.Native.Nat.{_≤_}
+use Prim.Native.Nat.{ℕ, zero, suc, _≤_}
+use mathlib.Core.Bool.{true}
 use mathlib.Core.List.{[], _∷_}
 use mathlib.Core.Path.{_≡_, refl}
 use native.Mathlib.Omega.{arith}
 use lib.ListN.{getD}
+use borrow.Author.Tests.{leb-true}
 use Rattle.kinds.specs.declared.Kind.{Kind}
 use Rattle.kinds.specs.declared.Kind.the-variants.{Pod, BassPod}
-use Rattle.kinds.specs.Kinds.{sizeOf, largest, deviceOf, identityOf}
+use Rattle.kinds.specs.Kinds.{isKind, kindOf, numberOf, sizeOf, largest, deviceOf, identityOf}
+
+-- a kind's number is a kind, and that kind
+pub kind-numbered : (kind : Kind) → (isKind (numberOf kind) ≡ true) × (kindOf (numberOf kind) ≡ kind)
+unfolding isKind kindOf numberOf
+kind-numbered Pod = (refl, refl)
+kind-numbered BassPod = (refl, refl)
+
+-- and no other number is
+pub no-other : (kindNumber : ℕ) → isKind kindNumber ≡ true → kindNumber ≡ numberOf (kindOf kindNumber)
+unfolding isKind kindOf numberOf
+no-other zero t = refl
+no-other (suc zero) t = refl
+no-other (suc (suc n)) t = let low = leb-true (suc (suc n)) 1 t in absurd (omega arith)
 
 -- a program has a byte, and no more than the largest
 pub size-bounds : (kind : Kind) → (1 ≤ sizeOf kind) × (sizeOf kind ≤ largest)
