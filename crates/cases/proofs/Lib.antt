@@ -1,5 +1,6 @@
 pub mod Marked
 pub mod Raised
+pub mod Bass
 pub mod Why
 pub mod ShutOut
 pub mod Unwritten

@@ -1,5 +1,6 @@
 -- The marked cases are given.
 use mathlib.Core.Path.{refl}
+use Rattle.kinds.specs.Kinds.{isKind, kindOf, numberOf, sizeOf, deviceOf}
 use Rattle.halves.specs.Moving.{joinInto}
 use Rattle.controls.specs.Formulas.{numberBy, numberFor, mOf, nextFor}
 use Rattle.controls.specs.Table.{rows, rowOf, selections, effectOf, selected}
@@ -19,5 +20,5 @@ use Rattle.cases.specs.Case.{AllGiven}
 use Rattle.cases.specs.Marked.{marked}
 
 pub as-the-paper-says : AllGiven marked
-unfolding marked joinInto scaleOf applyOf storeRow backOf shownOf numberBy numberFor mOf nextFor rowOf rows effectOf selections selected freshSettings freshHeld soundOf isWritten countRight runningRight waitingRight longIsFull takesOne takesTwo stepOf stepDoes byteOf directOf bodyLength isIdentity hasForm hasProgram furtherTests bodyOrder orderOf orderDoes isValid isHeard isController channelDoes messageDoes isFramed messageOrder
+unfolding marked isKind kindOf numberOf sizeOf deviceOf joinInto scaleOf applyOf storeRow backOf shownOf numberBy numberFor mOf nextFor rowOf rows effectOf selections selected freshSettings freshHeld soundOf isWritten countRight runningRight waitingRight longIsFull takesOne takesTwo stepOf stepDoes byteOf directOf bodyLength isIdentity hasForm hasProgram furtherTests bodyOrder orderOf orderDoes isValid isHeard isController channelDoes messageDoes isFramed messageOrder
 as-the-paper-says = refl

@@ -1,5 +1,6 @@
 -- The least numbers of Req 01 are given.
 use mathlib.Core.Path.{refl}
+use Rattle.kinds.specs.Kinds.{sizeOf}
 use Rattle.controls.specs.Formulas.{numberBy, numberFor, nextFor}
 use Rattle.controls.specs.Table.{rows, rowOf, selections, effectOf, selected}
 use Rattle.controls.specs.Scaling.{scaleOf}
@@ -9,5 +10,5 @@ use Rattle.cases.specs.Case.{AllGiven}
 use Rattle.cases.specs.Raised.{raised}
 
 pub as-asked : AllGiven raised
-unfolding raised scaleOf applyOf storeRow backOf shownOf numberBy numberFor nextFor rowOf rows effectOf selections selected
+unfolding raised sizeOf scaleOf applyOf storeRow backOf shownOf numberBy numberFor nextFor rowOf rows effectOf selections selected
 as-asked = refl

@@ -9,7 +9,8 @@ use Rattle.ground.specs.Tests.{Test, tested}
 use Rattle.ground.specs.Calls.{left, leaves}
 use Rattle.ground.proofs.Tests.{by}
 use Rattle.ground.proofs.InOrder.{tested-cases, tested-map}
-use Rattle.programs.specs.Memory.{programSize}
+use Rattle.kinds.specs.declared.Kind.the-variants.{Pod}
+use Rattle.kinds.specs.Kinds.{kindOf}
 use Rattle.programs.specs.Held.{Held}
 use Rattle.framing.specs.Bytes.{stepOf}
 use Rattle.sockets.specs.Framer.{Happening, Nothing, Cut, Finished}
@@ -24,13 +25,13 @@ use Rattle.sysex.specs.Carrying.{Outcome, Left}
 use Rattle.podbox.specs.Whole.{bodyOf, messageOrder}
 use Rattle.podbox.specs.Box.{limit, takeTests, wholeTests, panel, plainAnswer, boxRules}
 use Rattle.demands.proofs.Tells.{Tells, order-tells, message-tells}
-use Rattle.cases.specs.ShutOut.{promised, ShutOut, ShutOutWhole, Unwritten, leftBy, TellsUnwritten, TellsUnwrittenWhole}
+use Rattle.cases.specs.ShutOut.{pod, promised, ShutOut, ShutOutWhole, Unwritten, leftBy, TellsUnwritten, TellsUnwrittenWhole}
 use Rattle.cases.proofs.ShutOut.{shut, shut-whole}
 
-happening-tells : (settings : Settings) (held : Held) (s : Socket) (h : Happening) → Tells (happeningDoes (boxRules settings) held s h)
+happening-tells : (settings : Settings) (held : Held) (s : Socket) (h : Happening) → Tells (happeningDoes (boxRules pod settings) held s h)
 happening-tells settings held s Nothing = refl
 happening-tells settings held s Cut = refl
-happening-tells settings held s (Finished m) = message-tells settings (socketNumber s) held m
+happening-tells settings held s (Finished m) = message-tells (kindOf pod) settings (socketNumber s) held m
 
 -- a call that is turned away tells none
 none-told : (k number : ℕ) → k < answerLength (plainAnswer number) → ⊥
@@ -53,7 +54,7 @@ module _ (k : ℕ) (o : Outcome) (held : Held) (tests : List ℕ → List (Test 
   -- and no byte is that of a buffer of zeros and that of a buffer of ones
   never-unwritten : Unwritten k (behind o held tests) → ⊥
   never-unwritten bad =
-      let n = longest programSize + suc k in
+      let n = longest Pod + suc k in
       let at : (x : ℕ) → getD (o .sent) k 0 ≡ x = λ x.
       let b = bad (replicate n x) (rw (length-replicate n x) (omega arith)) in
       sym (told-sent (replicate n x) (b .0)) ∙ b .1 ∙ getD-replicate n k x 0 (omega arith) in
@@ -61,21 +62,21 @@ module _ (k : ℕ) (o : Outcome) (held : Held) (tests : List ℕ → List (Test 
 
 -- what a byte does, and that its call leaves as much
 abbrev byteDoes : Settings → ℕ → ℕ → Lent Held → Outcome
-byteDoes settings socket byte entry = happeningDoes (boxRules settings) (entry .held) (socketOf socket) (happeningOf (stepOf limit (entry .receiver) byte .event) (entry .receive))
+byteDoes settings socket byte entry = happeningDoes (boxRules pod settings) (entry .held) (socketOf socket) (happeningOf (stepOf (limit (kindOf pod)) (entry .receiver) byte .event) (entry .receive))
 
 byte-left : (settings : Settings) (socket byte : ℕ) (entry : Lent Held)
-    → leftBy (promised settings socket byte entry) ≡ behind (byteDoes settings socket byte entry) (entry .held) (λ reply. takeTests settings socket entry) (entry .reply)
+    → leftBy (promised settings socket byte entry) ≡ behind (byteDoes settings socket byte entry) (entry .held) (λ reply. takeTests pod settings socket entry) (entry .reply)
 unfolding byteOf stepDoes
 byte-left settings socket byte entry =
-    tested-map leftBy (takeTests settings socket entry) (λ number. took (entry .receiver) (plainAnswer number) (entry .held) (entry .receive) (entry .reply))
-    (stepDoes (boxRules settings) (socketOf socket) byte entry (stepOf limit (entry .receiver) byte))
+    tested-map leftBy (takeTests pod settings socket entry) (λ number. took (entry .receiver) (plainAnswer number) (entry .held) (entry .receive) (entry .reply))
+    (stepDoes (boxRules pod settings) (socketOf socket) byte entry (stepOf (limit (kindOf pod)) (entry .receiver) byte))
 
 pub unwritten : ShutOut TellsUnwritten
 unwritten =
     shut TellsUnwritten (λ bad.
     let (settings, socket, byte, receiver, held, receive, k, call) = bad in
-    never-unwritten k (byteDoes settings socket byte (lent receiver held receive [])) held (λ reply. takeTests settings socket (lent receiver held receive reply))
-    (happening-tells settings held (socketOf socket) (happeningOf (stepOf limit receiver byte .event) receive))
+    never-unwritten k (byteDoes settings socket byte (lent receiver held receive [])) held (λ reply. takeTests pod settings socket (lent receiver held receive reply))
+    (happening-tells settings held (socketOf socket) (happeningOf (stepOf (limit (kindOf pod)) receiver byte .event) receive))
     (subst (Unwritten k) (λ i reply. byte-left settings socket byte (lent receiver held receive reply) i) call))
 
 pub unwritten-whole : ShutOutWhole TellsUnwrittenWhole
@@ -83,5 +84,5 @@ unfolding directOf
 unwritten-whole =
     shut-whole TellsUnwrittenWhole (λ bad.
     let (settings, message, held, k, call) = bad in
-    never-unwritten k (directDoes (boxRules settings) held message) held (wholeTests settings held)
-    (order-tells settings panel held (messageOrder settings message) (bodyOf message)) call)
+    never-unwritten k (directDoes (boxRules pod settings) held message) held (wholeTests pod settings held)
+    (order-tells (kindOf pod) settings panel held (messageOrder (kindOf pod) settings message) (bodyOf message)) call)

@@ -1,9 +1,11 @@
--- The ways to ask the definitions: for half bytes, for a controller, and for a fresh box.
+-- The ways to ask the definitions: for half bytes, and of a kind for a controller, and for a fresh box.
 use Prim.Native.Nat.{ℕ}
 use mathlib.Core.List.{List, [], _∷_}
-use lib.ListN.{replicate, set}
-use Rattle.programs.specs.Memory.{programSize}
-use Rattle.programs.specs.Held.{Held}
+use lib.ListN.{replicate, set, take}
+use Rattle.kinds.specs.declared.Kind.{Kind}
+use Rattle.kinds.specs.Kinds.{numberOf, sizeOf}
+use Rattle.programs.specs.Memory.{memorySize}
+use Rattle.programs.specs.Held.{Held, heldOf}
 use Rattle.halves.specs.HalfBytes.{split}
 use Rattle.halves.specs.Moving.{movedNumber, joinInto}
 use Rattle.controls.specs.Answers.{refusalOf, valueOf}
@@ -13,16 +15,13 @@ use Rattle.controls.specs.Showing.{backOf}
 use Rattle.framing.specs.declared.Receiver.{Receiver}
 use Rattle.framing.specs.Receiver.{fresh}
 use Rattle.sysex.specs.Forms.{longest}
-use Rattle.sysex.specs.Numbers.{answerNumber}
+use Rattle.sysex.specs.Numbers.{answerNumber, answerLength}
+use Rattle.sysex.specs.Carrying.{Left}
 use Rattle.podbox.specs.Settings.{freshSettings, freshHeld}
 use Rattle.podbox.specs.Box.{takeOf, wholeOf}
 
 abbrev pub zeros : ℕ → List ℕ
 zeros count = replicate count 0
-
--- a receive or a reply buffer of zeros, as long as is asked
-abbrev pub blank : List ℕ
-blank = zeros (longest programSize)
 
 abbrev pub travels : ℕ → List ℕ
 travels byte = split (byte ∷ [])
@@ -31,29 +30,51 @@ travels byte = split (byte ∷ [])
 abbrev pub reads : List ℕ → List ℕ
 reads halves = let l = joinInto halves (0 ∷ []) in movedNumber (l .answer) ∷ l .buffer
 
--- scaling and showing back: the refusal number, and the value
-abbrev pub scaled : ℕ → ℕ → List ℕ
-scaled controller value = let r = scaleOf controller value in refusalOf r ∷ valueOf r ∷ []
+module _ (kind : Kind) where
+  -- a receive or a reply buffer of zeros, as long as is asked
+  abbrev pub blank : List ℕ
+  blank = zeros (longest kind)
 
-abbrev pub shown : ℕ → List ℕ → List ℕ
-shown controller edit = let r = backOf controller edit in refusalOf r ∷ valueOf r ∷ []
+  -- scaling and showing back: the refusal number, and the value
+  abbrev pub scaled : ℕ → ℕ → List ℕ
+  scaled controller value = let r = scaleOf kind controller value in refusalOf r ∷ valueOf r ∷ []
 
--- an edit buffer of zeros but for one byte, and after one controller
-abbrev pub with : ℕ → ℕ → List ℕ
-with place byte = set (zeros programSize) place byte
+  abbrev pub shown : ℕ → List ℕ → List ℕ
+  shown controller edit = let r = backOf kind controller edit in refusalOf r ∷ valueOf r ∷ []
 
-abbrev pub after : ℕ → ℕ → List ℕ → List ℕ
-after controller value edit = applyOf controller value edit .edit
+  -- an edit buffer of zeros but for one byte, and after one controller
+  abbrev pub with : ℕ → ℕ → List ℕ
+  with place byte = set (zeros (sizeOf kind)) place byte
 
--- a fresh box, set as the listing program's: the number of each byte of a run on socket 0, and of a message that is handed over whole
-abbrev pub numbersOf : List ℕ → Receiver → Held → List ℕ → List ℕ → List ℕ
-numbersOf [] receiver held receive reply = []
-numbersOf (byte ∷ bytes) receiver held receive reply =
-    let l = takeOf freshSettings 0 receiver byte held receive reply in
-    answerNumber (l .answer) ∷ numbersOf bytes (l .receiver) (l .held) (l .receive) (l .reply)
+  abbrev pub after : ℕ → ℕ → List ℕ → List ℕ
+  after controller value edit = applyOf kind controller value edit .edit
 
-abbrev pub called : List ℕ → List ℕ
-called bytes = numbersOf bytes fresh freshHeld blank blank
+  -- a box set as the listing program's: the number of each byte of a run on socket 0, and what it holds after the run
+  abbrev pub numbersOf : List ℕ → Receiver → Held → List ℕ → List ℕ → List ℕ
+  numbersOf [] receiver held receive reply = []
+  numbersOf (byte ∷ bytes) receiver held receive reply =
+      let l = takeOf (numberOf kind) freshSettings 0 receiver byte held receive reply in
+      answerNumber (l .answer) ∷ numbersOf bytes (l .receiver) (l .held) (l .receive) (l .reply)
 
-abbrev pub handed : List ℕ → List ℕ
-handed message = answerNumber (wholeOf freshSettings message freshHeld blank .answer) ∷ []
+  abbrev pub heldOn : List ℕ → Receiver → Held → List ℕ → List ℕ → Held
+  heldOn [] receiver held receive reply = held
+  heldOn (byte ∷ bytes) receiver held receive reply =
+      let l = takeOf (numberOf kind) freshSettings 0 receiver byte held receive reply in
+      heldOn bytes (l .receiver) (l .held) (l .receive) (l .reply)
+
+  -- a fresh box, and one whose memory is of zeros but for one byte
+  abbrev pub called : List ℕ → List ℕ
+  called bytes = numbersOf bytes fresh (freshHeld kind) blank blank
+
+  abbrev pub heldWith : ℕ → ℕ → Held
+  heldWith place byte = heldOf (set (zeros (memorySize kind)) place byte)
+
+  -- what a fresh box is handed whole: the number, and the reply
+  abbrev pub answer : List ℕ → Left
+  answer message = wholeOf (numberOf kind) freshSettings message (freshHeld kind) blank
+
+  abbrev pub handed : List ℕ → List ℕ
+  handed message = answerNumber (answer message .answer) ∷ []
+
+  abbrev pub replied : List ℕ → List ℕ
+  replied message = let l = answer message in take (answerLength (l .answer)) (l .reply)

@@ -1,4 +1,4 @@
--- "Shut out": what bad boxes would do, said of any byte call and of any call with a whole message.
+-- "Shut out": what bad boxes would do, said of any byte call of a POD and of any call with a whole message.
 use Prim.Native.Nat.{ℕ, _≤_, _<_}
 use mathlib.Core.List.{List, [], _∷_}
 use mathlib.Core.Logic.{_⊎_}
@@ -6,7 +6,8 @@ use mathlib.Core.Path.{_≡_}
 use lib.ListN.{length, getD, take}
 use Rattle.ground.specs.Tests.{AllHold}
 use Rattle.ground.specs.Calls.{left}
-use Rattle.programs.specs.Memory.{programSize}
+use Rattle.kinds.specs.declared.Kind.the-variants.{Pod}
+use Rattle.kinds.specs.Kinds.{numberOf}
 use Rattle.programs.specs.Held.{Held}
 use Rattle.framing.specs.declared.Receiver.{Receiver}
 use Rattle.framing.specs.declared.Event.{Event}
@@ -22,6 +23,10 @@ use Rattle.sysex.specs.Carrying.{Left}
 use Rattle.podbox.specs.Settings.{freshSettings}
 use Rattle.podbox.specs.Box.{Took, limit, takeTests, wholeTests, boxRules, takeOf, wholeOf}
 
+-- the number of the kind that these calls bring
+abbrev pub pod : ℕ
+pod = numberOf Pod
+
 -- a box's call with one byte, by its settings, the socket, the byte and what is lent; and its call with a whole message
 abbrev pub ByteCall : Type 0
 ByteCall = Settings → ℕ → ℕ → Lent Held → Took
@@ -29,15 +34,18 @@ ByteCall = Settings → ℕ → ℕ → Lent Held → Took
 abbrev pub WholeCall : Type 0
 WholeCall = Settings → List ℕ → Held → List ℕ → Left
 
--- the byte call that is promised, and a call that keeps its promise
+-- the calls that are promised, and a call that keeps its promise
 abbrev pub promised : ByteCall
-promised settings socket byte entry = takeOf settings socket (entry .receiver) byte (entry .held) (entry .receive) (entry .reply)
+promised settings socket byte entry = takeOf pod settings socket (entry .receiver) byte (entry .held) (entry .receive) (entry .reply)
+
+abbrev pub promisedWhole : WholeCall
+promisedWhole settings message held reply = wholeOf pod settings message held reply
 
 abbrev pub Keeps : ByteCall → Type 0
 Keeps box = (settings : Settings) (socket byte : ℕ) (entry : Lent Held) → box settings socket byte entry ≡ promised settings socket byte entry
 
 abbrev pub KeepsWhole : WholeCall → Type 0
-KeepsWhole box = (settings : Settings) (message : List ℕ) (held : Held) (reply : List ℕ) → box settings message held reply ≡ wholeOf settings message held reply
+KeepsWhole box = (settings : Settings) (message : List ℕ) (held : Held) (reply : List ℕ) → box settings message held reply ≡ promisedWhole settings message held reply
 
 -- whatever keeps the promise is no such box
 abbrev pub ShutOut : (ByteCall → Type 0) → Type 0
@@ -48,10 +56,10 @@ ShutOutWhole Bad = (box : WholeCall) → KeepsWhole box → Bad box → ⊥
 
 -- what a box does at every call that is not to be turned away
 abbrev pub Always : ByteCall → (ℕ → Lent Held → Took → Type 0) → Type 0
-Always box P = (settings : Settings) (socket byte : ℕ) (entry : Lent Held) → AllHold (takeTests settings socket entry) → P byte entry (box settings socket byte entry)
+Always box P = (settings : Settings) (socket byte : ℕ) (entry : Lent Held) → AllHold (takeTests pod settings socket entry) → P byte entry (box settings socket byte entry)
 
 abbrev pub AlwaysWhole : WholeCall → (Held → Left → Type 0) → Type 0
-AlwaysWhole box P = (settings : Settings) (message : List ℕ) (held : Held) (reply : List ℕ) → AllHold (wholeTests settings held reply) → P held (box settings message held reply)
+AlwaysWhole box P = (settings : Settings) (message : List ℕ) (held : Held) (reply : List ℕ) → AllHold (wholeTests pod settings held reply) → P held (box settings message held reply)
 
 -- a byte finishes a SysEx that is not too long, or a channel message
 abbrev pub EndsSysEx : Event → Type 0
@@ -65,14 +73,14 @@ Ends event = EndsSysEx event ⊎ EndsChannel event
 
 -- "a box that refuses everything": every byte that finishes a message, or a message of one kind
 abbrev pub Refuses : (Event → Type 0) → ByteCall → Type 0
-Refuses Ending box = Always box (λ byte entry done. Ending (stepOf limit (entry .receiver) byte .event) → 10 ≤ answerNumber (done .answer))
+Refuses Ending box = Always box (λ byte entry done. Ending (stepOf (limit Pod) (entry .receiver) byte .event) → 10 ≤ answerNumber (done .answer))
 
 abbrev pub RefusesWhole : WholeCall → Type 0
 RefusesWhole box = AlwaysWhole box (λ held done. 10 ≤ answerNumber (done .answer))
 
 -- "one that returns 0 for every byte", every byte that finishes a message among them
 abbrev pub ReturnsZero : ByteCall → Type 0
-ReturnsZero box = Always box (λ byte entry done. Ends (stepOf limit (entry .receiver) byte .event) → answerNumber (done .answer) ≡ 0)
+ReturnsZero box = Always box (λ byte entry done. Ends (stepOf (limit Pod) (entry .receiver) byte .event) → answerNumber (done .answer) ≡ 0)
 
 -- "one that never writes memory"
 abbrev pub NeverWrites : ByteCall → Type 0
@@ -87,7 +95,7 @@ FirstAlone rules {w} {v} history = v .held ≡ heldAfter rules (w .held) (take 1
 
 -- a box set as the listing program's; and to its socket 0 controller 12 at 27, then at 5 under running status
 abbrev pub freshRules : Rules
-freshRules = boxRules freshSettings
+freshRules = boxRules pod freshSettings
 
 abbrev pub twoMoves : CallsOf freshRules
 twoMoves = feed S0 (0xB0 ∷ 12 ∷ 27 ∷ 12 ∷ 5 ∷ [])
@@ -98,7 +106,7 @@ WritesNone box = Always box (λ byte entry done. take (answerLength (done .answe
 
 -- the same of one byte at one call, by what the call leaves for each reply buffer: byte k is told, and whatever stood there stands there
 abbrev pub Unwritten : ℕ → (List ℕ → Left) → Type 0
-Unwritten k call = (reply : List ℕ) → longest programSize ≤ length reply → (k < answerLength (call reply .answer)) × (getD (call reply .reply) k 0 ≡ getD reply k 0)
+Unwritten k call = (reply : List ℕ) → longest Pod ≤ length reply → (k < answerLength (call reply .answer)) × (getD (call reply .reply) k 0 ≡ getD reply k 0)
 
 -- what a byte call leaves, but for what is its socket's
 abbrev pub leftBy : Took → Left
