@@ -1,17 +1,10 @@
 /* What makes it fast: half bytes are tested by one OR over all of them and joined in loops that the compiler turns
  * into vector code, every formula is one multiplication, one shift and the greater of two numbers, and a byte's tests
- * stand in the order in which a running box meets them. Nothing is skipped: 30, 31 and 32 are tested at every call. */
+ * stand in the order in which a running box meets them. A call looks at its kind once, and goes on in code of that
+ * kind, in which lengths and places are constants. Nothing is skipped: 30, 31 and 32 are tested at every call. */
 #include "plain.h"
 
-enum {
-    PROGRAM = COSTERBLOOM_PROGRAM,
-    PROGRAMS = 36,
-    EDIT = PROGRAMS * PROGRAM,
-    MEMORY = COSTERBLOOM_MEMORY,
-    LONGEST = COSTERBLOOM_LONGEST,
-    LIMIT = LONGEST - 1,
-    REFUSAL = 65536
-};
+enum { PROGRAMS = 36, REFUSAL = 65536 };
 
 /* Numbers the box returns. */
 enum {
@@ -107,7 +100,7 @@ enum { ALWAYS = 1, SWELL = 2, COMPRESSOR = 4, CHORUS = 8, ROTARY = 16, TREMOLO =
         0, 0, 26, 3, 127, ALWAYS, 0                                                                                    \
     }
 
-static const row ROWS[128] = {
+static const row POD_ROWS[128] = {
     [25] = V_64(0),
     [26] = V_64(1),
     [27] = V_64(2),
@@ -159,6 +152,50 @@ static const row ROWS[128] = {
     [59] = {65536, 0, 50, 1, 127, TREMOLO, 0},
 };
 
+static const row BASS_POD_ROWS[128] = {
+    [12] = V(3, 15),
+    [19] = V(49, 15),
+    [64] = V_64(2),
+    [13] = V_2(4),
+    [14] = V_2(6),
+    [15] = V_2(7),
+    [16] = V_2(8),
+    [17] = V_2(10),
+    [18] = V_2(11),
+    [1] = V_2(50),
+};
+
+/* All that hangs on a kind. Whoever takes a unit is inlined (IN_KIND) into a function of one kind, but for what is done
+ * with a finished SysEx, which is long beside the reading of a unit. */
+typedef struct {
+    size_t program; /* bytes of one */
+    uint8_t header[5], identity[4];
+    const row *rows;
+    int changes; /* whether a program change is taken */
+} unit;
+
+#define IN_KIND static inline __attribute__((always_inline))
+
+static const unit POD = {COSTERBLOOM_POD_PROGRAM, {0xF0, 0x00, 0x01, 0x0C, 0x01}, {0, 0, 0, 1}, POD_ROWS, 0};
+static const unit BASS_POD = {
+    COSTERBLOOM_BASS_POD_PROGRAM, {0xF0, 0x00, 0x01, 0x0C, 0x02}, {2, 0, 0, 0}, BASS_POD_ROWS, 1};
+
+IN_KIND size_t edit_of(const unit *u)
+{
+    return PROGRAMS * u->program;
+}
+
+IN_KIND size_t limit_of(const unit *u)
+{
+    return COSTERBLOOM_LONGEST_OF(u->program) - 1;
+}
+
+IN_KIND int is_short(const unit *u, size_t memory_length, size_t receive_length, size_t reply_length)
+{
+    return memory_length < COSTERBLOOM_MEMORY_OF(u->program) || receive_length < COSTERBLOOM_LONGEST_OF(u->program) ||
+           reply_length < COSTERBLOOM_LONGEST_OF(u->program);
+}
+
 /* What each value of byte 46 selects. */
 static const uint8_t SELECTED[16] = {CHORUS, CHORUS, ROTARY, CHORUS, CHORUS, TREMOLO, 0, COMPRESSOR, CHORUS, TREMOLO, 0,
     COMPRESSOR, CHORUS, CHORUS, SWELL, CHORUS};
@@ -199,9 +236,9 @@ static void store_m(uint8_t *bytes, uint32_t controller, uint32_t value)
     bytes[2] = (uint8_t)(number >> 16);
 }
 
-static inline uint32_t apply(uint32_t controller, uint32_t value, uint8_t *edit)
+IN_KIND uint32_t apply(const unit *u, uint32_t controller, uint32_t value, uint8_t *edit)
 {
-    const row *r = &ROWS[controller];
+    const row *r = &u->rows[controller];
     if (!r->width)
         return NO_CONTROLLER;
     if (value > r->highest)
@@ -220,13 +257,22 @@ static inline uint32_t apply(uint32_t controller, uint32_t value, uint8_t *edit)
     return APPLIED;
 }
 
-uint32_t plain_scale(uint32_t controller, uint32_t value)
+IN_KIND uint32_t scale(const unit *u, uint32_t controller, uint32_t value)
 {
-    if (controller > 127 || !ROWS[controller].factor)
+    if (controller > 127 || !u->rows[controller].factor)
         return REFUSAL + NO_CONTROLLER;
-    if (value > ROWS[controller].highest)
+    if (value > u->rows[controller].highest)
         return REFUSAL + OUT_OF_RANGE;
-    return number_of(&ROWS[controller], value);
+    return number_of(&u->rows[controller], value);
+}
+
+uint32_t plain_scale(uint32_t controller, uint32_t value, uint32_t kind)
+{
+    switch (kind) {
+        case COSTERBLOOM_POD: return scale(&POD, controller, value);
+        case COSTERBLOOM_BASS_POD: return scale(&BASS_POD, controller, value);
+        default: return REFUSAL + NOT_SOUND;
+    }
 }
 
 static inline uint32_t back_m(uint32_t controller, uint32_t stored)
@@ -252,54 +298,58 @@ static inline uint32_t back_row(const row *r, uint32_t stored)
     return (uint32_t)value;
 }
 
-uint32_t plain_back(const uint8_t *memory, size_t memory_length, uint32_t controller)
+IN_KIND uint32_t back(const unit *u, uint32_t controller, const uint8_t *memory, size_t memory_length)
 {
-    if (memory_length < MEMORY)
+    if (memory_length < COSTERBLOOM_MEMORY_OF(u->program))
         return REFUSAL + TOO_SHORT;
-    if (controller > 127 || !ROWS[controller].width)
+    if (controller > 127 || !u->rows[controller].width)
         return REFUSAL + NO_CONTROLLER;
-    const row *r = &ROWS[controller];
-    const uint8_t *edit = memory + EDIT;
+    const row *r = &u->rows[controller];
+    const uint8_t *edit = memory + edit_of(u);
     if (!is_selected(r, edit))
         return REFUSAL + NOT_SELECTED;
     uint32_t stored = load(edit + r->place, r->width);
     return r->factor ? back_row(r, stored) : back_m(controller, stored);
 }
 
+uint32_t plain_back(uint32_t controller, uint32_t kind, const uint8_t *memory, size_t memory_length)
+{
+    switch (kind) {
+        case COSTERBLOOM_POD: return back(&POD, controller, memory, memory_length);
+        case COSTERBLOOM_BASS_POD: return back(&BASS_POD, controller, memory, memory_length);
+        default: return REFUSAL + NOT_SOUND;
+    }
+}
+
 /* ---- finished messages */
 
 enum { REQUEST = 0, DUMP = 1, ONE = 0, EDITED = 1, ALL = 2 };
-
-static const uint8_t HEADER[5] = {0xF0, 0x00, 0x01, 0x0C, 0x01};
-
-/* Lengths without F7, by opcode and type. */
-static const uint16_t LENGTHS[2][3] = {{8, 7, 7}, {9 + 2 * PROGRAM, 8 + 2 * PROGRAM, 8 + 2 * PROGRAMS *PROGRAM}};
 
 static inline uint64_t replied(size_t length)
 {
     return REPLIED | (uint64_t)length << 8;
 }
 
-static uint64_t identify(const settings *s, uint8_t cc, uint8_t *restrict reply)
+static uint64_t identify(const unit *u, const settings *s, uint8_t cc, uint8_t *restrict reply)
 {
-    static const uint8_t IDENTITY[17] = {0xF0, 0x7E, 0, 6, 2, 0, 1, 0x0C, 0, 0, 0, 1, 0, 0, 0, 0, 0xF7};
+    static const uint8_t IDENTITY[17] = {0xF0, 0x7E, 0, 6, 2, 0, 1, 0x0C, 0, 0, 0, 0, 0, 0, 0, 0, 0xF7};
     if (cc != s->channel && cc != 0x7F && !s->omni)
         return OTHER_IDENTITY;
     __builtin_memcpy(reply, IDENTITY, sizeof IDENTITY);
     reply[2] = cc;
-    __builtin_memcpy(reply + 12, s->revision, 4);
+    __builtin_memcpy(reply + 8, u->identity, sizeof u->identity);
+    __builtin_memcpy(reply + 12, s->revision, sizeof s->revision);
     return replied(sizeof IDENTITY);
 }
 
+/* The dump begins as its request does, but for the opcode: of the eight bytes that every request has, the last is the
+ * program, or is written over. */
 static uint64_t answer(
-    uint8_t type, const uint8_t *body, const uint8_t *restrict part, size_t count, uint8_t *restrict reply)
+    const uint8_t *request, size_t head, const uint8_t *restrict part, size_t count, uint8_t *restrict reply)
 {
-    size_t at = sizeof HEADER;
-    __builtin_memcpy(reply, HEADER, sizeof HEADER);
-    reply[at++] = DUMP;
-    reply[at++] = type;
-    if (type == ONE)
-        reply[at++] = body[7];
+    size_t at = head;
+    __builtin_memcpy(reply, request, 8);
+    reply[5] = DUMP;
     reply[at++] = 0;
     split(reply + at, part, count);
     at += 2 * count;
@@ -323,34 +373,44 @@ static inline int is_identity(const uint8_t *body, size_t length)
 }
 
 /* A body: F0 and the bytes after it, without F7. Nothing is assumed of its bytes. */
-static uint64_t sysex(const settings *s, const uint8_t *body, size_t length, uint8_t *memory, uint8_t *reply)
+static uint64_t sysex(
+    const unit *u, const settings *s, const uint8_t *body, size_t length, uint8_t *memory, uint8_t *reply)
 {
     if (is_identity(body, length))
-        return identify(s, body[2], reply);
-    if (length < sizeof HEADER || __builtin_memcmp(body, HEADER, sizeof HEADER) != 0)
+        return identify(u, s, body[2], reply);
+    if (length < sizeof u->header || __builtin_memcmp(body, u->header, sizeof u->header) != 0)
         return NOT_OURS;
     if (length < 7 || body[5] > DUMP || body[6] > ALL)
         return UNKNOWN;
     uint8_t opcode = body[5], type = body[6];
-    if (length != LENGTHS[opcode][type])
+    size_t head = type == ONE ? 8 : 7, count = type == ALL ? edit_of(u) : u->program;
+    if (length != (opcode == REQUEST ? head : head + 1 + 2 * count))
         return WRONG_LENGTH;
     if (type == ONE && body[7] >= PROGRAMS)
         return NO_PROGRAM;
-    uint8_t *part = type == ONE ? memory + body[7] * PROGRAM : type == EDITED ? memory + EDIT : memory;
-    size_t count = type == ALL ? EDIT : PROGRAM;
+    uint8_t *part = memory + (type == ONE ? body[7] * u->program : type == EDITED ? edit_of(u) : 0);
     if (opcode == REQUEST)
-        return answer(type, body, part, count, reply);
-    return store(body + (type == ONE ? 8 : 7), part, count);
+        return answer(body, head, part, count, reply);
+    return store(body + head, part, count);
 }
 
-static inline uint64_t channel_message(
-    const settings *s, uint8_t status, uint8_t first, uint8_t second, uint8_t *memory)
+/* Programs are counted from 1 in a program change: 0 is none, and what is above 36 neither. */
+IN_KIND uint64_t change_program(const unit *u, uint8_t program, uint8_t *memory)
+{
+    if (!u->changes || program < 1 || program > PROGRAMS)
+        return OTHER_KIND;
+    __builtin_memcpy(memory + edit_of(u), memory + (program - 1) * u->program, u->program);
+    return STORED;
+}
+
+IN_KIND uint64_t channel_message(
+    const unit *u, const settings *s, uint8_t status, uint8_t first, uint8_t second, uint8_t *memory)
 {
     if ((status & 0x0F) != s->channel && !s->omni)
         return OTHER_CHANNEL;
-    if (status >> 4 != 0xB)
-        return OTHER_KIND;
-    return apply(first, second, memory + EDIT);
+    if (status >> 4 == 0xB)
+        return apply(u, first, second, memory + edit_of(u));
+    return status >> 4 == 0xC ? change_program(u, first, memory) : OTHER_KIND;
 }
 
 /* ---- from bytes to finished messages */
@@ -360,11 +420,11 @@ static inline int takes_two(uint8_t status)
     return status >= 0x80 && status <= 0xEF && (status & 0xE0) != 0xC0;
 }
 
-static inline int is_sound_inside(const costerbloom_receiver *r)
+IN_KIND int is_sound_inside(const unit *u, const costerbloom_receiver *r)
 {
-    if (r->inside != 1 || (r->running | r->held | r->waiting) || r->stored < 1 || r->stored > LIMIT)
+    if (r->inside != 1 || (r->running | r->held | r->waiting) || r->stored < 1 || r->stored > limit_of(u))
         return 0;
-    return r->over == 0 || (r->over == 1 && r->stored == LIMIT);
+    return r->over == 0 || (r->over == 1 && r->stored == limit_of(u));
 }
 
 static inline int is_sound_outside(const costerbloom_receiver *r)
@@ -392,11 +452,11 @@ static inline void status_byte(costerbloom_receiver *r, uint8_t byte, uint8_t *r
     }
 }
 
-static inline uint64_t take_inside(
-    costerbloom_receiver *r, uint8_t byte, const settings *s, uint8_t *memory, uint8_t *receive, uint8_t *reply)
+IN_KIND uint64_t take_inside(const unit *u, costerbloom_receiver *r, uint8_t byte, const settings *s, uint8_t *memory,
+    uint8_t *receive, uint8_t *reply)
 {
     if (byte < 0x80) {
-        if (r->stored < LIMIT)
+        if (r->stored < limit_of(u))
             receive[r->stored++] = byte;
         else
             r->over = 1;
@@ -411,11 +471,11 @@ static inline uint64_t take_inside(
     uint8_t over = r->over;
     size_t length = r->stored;
     clear(r, 0);
-    return over ? TOO_LONG : sysex(s, receive, length, memory, reply);
+    return over ? TOO_LONG : sysex(u, s, receive, length, memory, reply);
 }
 
-static inline uint64_t take_outside(
-    costerbloom_receiver *r, uint8_t byte, const settings *s, uint8_t *memory, uint8_t *receive)
+IN_KIND uint64_t take_outside(
+    const unit *u, costerbloom_receiver *r, uint8_t byte, const settings *s, uint8_t *memory, uint8_t *receive)
 {
     if (byte >= 0x80) {
         if (byte < 0xF8)
@@ -426,7 +486,7 @@ static inline uint64_t take_outside(
     if (!status)
         return TAKEN;
     if (!takes_two(status))
-        return channel_message(s, status, byte, 0, memory);
+        return channel_message(u, s, status, byte, 0, memory);
     if (!r->held) {
         r->held = 1;
         r->waiting = byte;
@@ -435,28 +495,45 @@ static inline uint64_t take_outside(
     uint8_t first = r->waiting;
     r->held = 0;
     r->waiting = 0;
-    return channel_message(s, status, first, byte, memory);
+    return channel_message(u, s, status, first, byte, memory);
 }
 
-uint64_t plain_take(costerbloom_receiver *receiver, uint32_t socket, uint8_t byte, uint8_t channel, uint8_t omni,
-    uint8_t revision0, uint8_t revision1, uint8_t revision2, uint8_t revision3, uint8_t *memory, size_t memory_length,
-    uint8_t *receive, size_t receive_length, uint8_t *reply, size_t reply_length)
+/* What is lent to a byte call beside its receiver. */
+typedef struct {
+    uint8_t *memory, *receive, *reply;
+    size_t memory_length, receive_length, reply_length;
+} lent;
+
+IN_KIND uint64_t take(
+    const unit *u, costerbloom_receiver *receiver, uint32_t socket, uint8_t byte, const settings *s, const lent *l)
 {
-    const settings s = {channel, omni, {revision0, revision1, revision2, revision3}};
-    if (memory_length < MEMORY || receive_length < LONGEST || reply_length < LONGEST)
+    if (is_short(u, l->memory_length, l->receive_length, l->reply_length))
         return TOO_SHORT;
     if (socket > 1)
         return NO_SOCKET;
-    if (!are_valid(&s))
+    if (!are_valid(s))
         return NOT_SOUND;
     if (receiver->inside) {
-        if (!is_sound_inside(receiver))
+        if (!is_sound_inside(u, receiver))
             return NOT_SOUND;
-        return take_inside(receiver, byte, &s, memory, receive, reply);
+        return take_inside(u, receiver, byte, s, l->memory, l->receive, l->reply);
     }
     if (!is_sound_outside(receiver))
         return NOT_SOUND;
-    return take_outside(receiver, byte, &s, memory, receive);
+    return take_outside(u, receiver, byte, s, l->memory, l->receive);
+}
+
+uint64_t plain_take(costerbloom_receiver *receiver, uint32_t socket, uint8_t byte, uint32_t kind, uint8_t channel,
+    uint8_t omni, uint8_t revision0, uint8_t revision1, uint8_t revision2, uint8_t revision3, uint8_t *memory,
+    size_t memory_length, uint8_t *receive, size_t receive_length, uint8_t *reply, size_t reply_length)
+{
+    const settings s = {channel, omni, {revision0, revision1, revision2, revision3}};
+    const lent l = {memory, receive, reply, memory_length, receive_length, reply_length};
+    switch (kind) {
+        case COSTERBLOOM_POD: return take(&POD, receiver, socket, byte, &s, &l);
+        case COSTERBLOOM_BASS_POD: return take(&BASS_POD, receiver, socket, byte, &s, &l);
+        default: return NOT_SOUND;
+    }
 }
 
 static inline int is_framed(const uint8_t *message, size_t length)
@@ -464,18 +541,21 @@ static inline int is_framed(const uint8_t *message, size_t length)
     return length >= 2 && message[0] == 0xF0 && message[length - 1] == 0xF7 && bits_of(message + 1, length - 2) <= 0x7F;
 }
 
-uint64_t plain_whole(const uint8_t *message, size_t message_length, uint8_t channel, uint8_t omni, uint8_t revision0,
-    uint8_t revision1, uint8_t revision2, uint8_t revision3, uint8_t *memory, size_t memory_length, uint8_t *reply,
-    size_t reply_length)
+uint64_t plain_whole(const uint8_t *message, size_t message_length, uint32_t kind, uint8_t channel, uint8_t omni,
+    uint8_t revision0, uint8_t revision1, uint8_t revision2, uint8_t revision3, uint8_t *memory, size_t memory_length,
+    uint8_t *reply, size_t reply_length)
 {
     const settings s = {channel, omni, {revision0, revision1, revision2, revision3}};
-    if (memory_length < MEMORY || reply_length < LONGEST)
+    if (kind > COSTERBLOOM_BASS_POD)
+        return NOT_SOUND;
+    const unit *u = kind == COSTERBLOOM_POD ? &POD : &BASS_POD;
+    if (is_short(u, memory_length, reply_length, reply_length))
         return TOO_SHORT;
     if (!are_valid(&s))
         return NOT_SOUND;
-    if (message_length > LONGEST)
+    if (message_length > COSTERBLOOM_LONGEST_OF(u->program))
         return TOO_LONG;
     if (!is_framed(message, message_length))
         return NOT_OURS;
-    return sysex(&s, message, message_length - 1, memory, reply);
+    return sysex(u, &s, message, message_length - 1, memory, reply);
 }
