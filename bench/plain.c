@@ -24,7 +24,7 @@ enum {
     OUT_OF_RANGE = 18,
     NOT_SELECTED = 19,
     OTHER_CHANNEL = 20,
-    OTHER_KIND = 21,
+    OTHER_MESSAGE = 21,
     OTHER_IDENTITY = 22,
     TOO_SHORT = 30,
     NO_SOCKET = 31,
@@ -36,10 +36,10 @@ typedef struct {
     uint8_t channel, omni, revision[4];
 } settings;
 
-static inline int are_valid(const settings *s)
+/* All bits of the four revision bytes are looked at together. */
+static inline int are_valid(uint8_t channel, uint8_t omni, uint8_t revision_bits)
 {
-    return s->channel <= 15 && s->omni <= 1 &&
-           (s->revision[0] | s->revision[1] | s->revision[2] | s->revision[3]) <= 0x7F;
+    return channel <= 15 && omni <= 1 && revision_bits <= 0x7F;
 }
 
 /* ---- half bytes */
@@ -165,7 +165,7 @@ static const row BASS_POD_ROWS[128] = {
     [1] = V_2(50),
 };
 
-/* All that hangs on a kind. Whoever takes a unit is inlined (IN_KIND) into a function of one kind, but for what is done
+/* All that hangs on a kind. A function over a unit is inlined (IN_KIND) where the unit is known, but for what is done
  * with a finished SysEx, which is long beside the reading of a unit. */
 typedef struct {
     size_t program; /* bytes of one */
@@ -394,23 +394,29 @@ static uint64_t sysex(
     return store(body + head, part, count);
 }
 
-/* Programs are counted from 1 in a program change: 0 is none, and what is above 36 neither. */
+/* The arguments of a byte call, kept apart: they are put together as settings for a finished SysEx alone. */
+typedef struct {
+    uint8_t byte, channel, omni, revision0, revision1, revision2, revision3;
+    uint8_t *memory, *receive, *reply;
+    size_t memory_length, receive_length, reply_length;
+} call;
+
+/* Programs are counted from 1 here: 0 is manual, 37 the tuner. */
 IN_KIND uint64_t change_program(const unit *u, uint8_t program, uint8_t *memory)
 {
     if (!u->changes || program < 1 || program > PROGRAMS)
-        return OTHER_KIND;
+        return OTHER_MESSAGE;
     __builtin_memcpy(memory + edit_of(u), memory + (program - 1) * u->program, u->program);
     return STORED;
 }
 
-IN_KIND uint64_t channel_message(
-    const unit *u, const settings *s, uint8_t status, uint8_t first, uint8_t second, uint8_t *memory)
+IN_KIND uint64_t channel_message(const unit *u, const call *c, uint8_t status, uint8_t first, uint8_t second)
 {
-    if ((status & 0x0F) != s->channel && !s->omni)
+    if ((status & 0x0F) != c->channel && !c->omni)
         return OTHER_CHANNEL;
     if (status >> 4 == 0xB)
-        return apply(u, first, second, memory + edit_of(u));
-    return status >> 4 == 0xC ? change_program(u, first, memory) : OTHER_KIND;
+        return apply(u, first, second, c->memory + edit_of(u));
+    return status >> 4 == 0xC ? change_program(u, first, c->memory) : OTHER_MESSAGE;
 }
 
 /* ---- from bytes to finished messages */
@@ -452,86 +458,75 @@ static inline void status_byte(costerbloom_receiver *r, uint8_t byte, uint8_t *r
     }
 }
 
-IN_KIND uint64_t take_inside(const unit *u, costerbloom_receiver *r, uint8_t byte, const settings *s, uint8_t *memory,
-    uint8_t *receive, uint8_t *reply)
+IN_KIND uint64_t take_inside(const unit *u, costerbloom_receiver *r, const call *c)
 {
-    if (byte < 0x80) {
+    if (c->byte < 0x80) {
         if (r->stored < limit_of(u))
-            receive[r->stored++] = byte;
+            c->receive[r->stored++] = c->byte;
         else
             r->over = 1;
         return TAKEN;
     }
-    if (byte >= 0xF8)
+    if (c->byte >= 0xF8)
         return TAKEN;
-    if (byte != 0xF7) {
-        status_byte(r, byte, receive);
+    if (c->byte != 0xF7) {
+        status_byte(r, c->byte, c->receive);
         return CUT;
     }
     uint8_t over = r->over;
     size_t length = r->stored;
     clear(r, 0);
-    return over ? TOO_LONG : sysex(u, s, receive, length, memory, reply);
+    if (over)
+        return TOO_LONG;
+    const settings s = {c->channel, c->omni, {c->revision0, c->revision1, c->revision2, c->revision3}};
+    return sysex(u, &s, c->receive, length, c->memory, c->reply);
 }
 
-IN_KIND uint64_t take_outside(
-    const unit *u, costerbloom_receiver *r, uint8_t byte, const settings *s, uint8_t *memory, uint8_t *receive)
+IN_KIND uint64_t take_outside(const unit *u, costerbloom_receiver *r, const call *c)
 {
-    if (byte >= 0x80) {
-        if (byte < 0xF8)
-            status_byte(r, byte, receive);
+    if (c->byte >= 0x80) {
+        if (c->byte < 0xF8)
+            status_byte(r, c->byte, c->receive);
         return TAKEN;
     }
     uint8_t status = r->running;
     if (!status)
         return TAKEN;
     if (!takes_two(status))
-        return channel_message(u, s, status, byte, 0, memory);
+        return channel_message(u, c, status, c->byte, 0);
     if (!r->held) {
         r->held = 1;
-        r->waiting = byte;
+        r->waiting = c->byte;
         return TAKEN;
     }
     uint8_t first = r->waiting;
     r->held = 0;
     r->waiting = 0;
-    return channel_message(u, s, status, first, byte, memory);
+    return channel_message(u, c, status, first, c->byte);
 }
 
-/* What is lent to a byte call beside its receiver. */
-typedef struct {
-    uint8_t *memory, *receive, *reply;
-    size_t memory_length, receive_length, reply_length;
-} lent;
-
-IN_KIND uint64_t take(
-    const unit *u, costerbloom_receiver *receiver, uint32_t socket, uint8_t byte, const settings *s, const lent *l)
+IN_KIND uint64_t take(const unit *u, costerbloom_receiver *r, uint32_t socket, const call *c)
 {
-    if (is_short(u, l->memory_length, l->receive_length, l->reply_length))
+    if (is_short(u, c->memory_length, c->receive_length, c->reply_length))
         return TOO_SHORT;
     if (socket > 1)
         return NO_SOCKET;
-    if (!are_valid(s))
+    if (!are_valid(c->channel, c->omni, c->revision0 | c->revision1 | c->revision2 | c->revision3))
         return NOT_SOUND;
-    if (receiver->inside) {
-        if (!is_sound_inside(u, receiver))
-            return NOT_SOUND;
-        return take_inside(u, receiver, byte, s, l->memory, l->receive, l->reply);
-    }
-    if (!is_sound_outside(receiver))
-        return NOT_SOUND;
-    return take_outside(u, receiver, byte, s, l->memory, l->receive);
+    if (r->inside)
+        return is_sound_inside(u, r) ? take_inside(u, r, c) : NOT_SOUND;
+    return is_sound_outside(r) ? take_outside(u, r, c) : NOT_SOUND;
 }
 
 uint64_t plain_take(costerbloom_receiver *receiver, uint32_t socket, uint8_t byte, uint32_t kind, uint8_t channel,
     uint8_t omni, uint8_t revision0, uint8_t revision1, uint8_t revision2, uint8_t revision3, uint8_t *memory,
     size_t memory_length, uint8_t *receive, size_t receive_length, uint8_t *reply, size_t reply_length)
 {
-    const settings s = {channel, omni, {revision0, revision1, revision2, revision3}};
-    const lent l = {memory, receive, reply, memory_length, receive_length, reply_length};
+    const call c = {byte, channel, omni, revision0, revision1, revision2, revision3, memory, receive, reply,
+        memory_length, receive_length, reply_length};
     switch (kind) {
-        case COSTERBLOOM_POD: return take(&POD, receiver, socket, byte, &s, &l);
-        case COSTERBLOOM_BASS_POD: return take(&BASS_POD, receiver, socket, byte, &s, &l);
+        case COSTERBLOOM_POD: return take(&POD, receiver, socket, &c);
+        case COSTERBLOOM_BASS_POD: return take(&BASS_POD, receiver, socket, &c);
         default: return NOT_SOUND;
     }
 }
@@ -551,7 +546,7 @@ uint64_t plain_whole(const uint8_t *message, size_t message_length, uint32_t kin
     const unit *u = kind == COSTERBLOOM_POD ? &POD : &BASS_POD;
     if (is_short(u, memory_length, reply_length, reply_length))
         return TOO_SHORT;
-    if (!are_valid(&s))
+    if (!are_valid(channel, omni, revision0 | revision1 | revision2 | revision3))
         return NOT_SOUND;
     if (message_length > COSTERBLOOM_LONGEST_OF(u->program))
         return TOO_LONG;
