@@ -225,11 +225,11 @@ int main(int count, char **words)
 {
     if (count != 7 || !set_as(words[1])) {
         say("usage: box KIND PROGRAMS INPUT0 INPUT1 OUTPUT0 OUTPUT1\n"
-            "KIND is the word pod or bass. Bytes that come on sockets 0 and 1 are read from INPUT0 and INPUT1, replies\n"
-            "are written to OUTPUT0 and OUTPUT1. The file PROGRAMS keeps the programs and the edit buffer, 2664 bytes\n"
-            "of a pod and 2960 of a bass, from one run to the next. It is read at the start. Where something was\n"
-            "stored it is replaced as soon as no byte waits, at most once a second, and in any case when both inputs\n"
-            "have ended, or at SIGINT or SIGTERM.\n");
+            "KIND is the word pod or bass. Bytes that come on sockets 0 and 1 are read from INPUT0 and INPUT1,\n"
+            "replies are written to OUTPUT0 and OUTPUT1. The file PROGRAMS keeps the programs and the edit buffer,\n"
+            "2664 bytes of a pod, 2960 of a bass, from one run to the next: it is read at the start, and replaced\n"
+            "where something was stored: as soon as no byte waits, at most once a second, and when both inputs have\n"
+            "ended, or at SIGINT or SIGTERM.\n");
         return MISUSED;
     }
     const char *programs = words[2];

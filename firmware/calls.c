@@ -160,8 +160,8 @@ static void expect_apart(void)
     costerbloom_receiver open = {.stored = 5500, .inside = 1};
     expect(take(&open, 1, bass->number, pod->memory, bass->longest) == SHORT, "take", "a POD's memory");
     expect(take(&open, 1, bass->number, bass->memory, pod->longest) == SHORT, "take", "a POD's buffers");
-    expect(whole(request, sizeof request, bass->number, pod->memory, bass->longest) == SHORT, "whole", "a POD's memory");
-    expect(whole(request, sizeof request, bass->number, bass->memory, pod->longest) == SHORT, "whole", "a POD's reply");
+    expect(whole(request, 6, bass->number, pod->memory, bass->longest) == SHORT, "whole", "a POD's memory");
+    expect(whole(request, 6, bass->number, bass->memory, pod->longest) == SHORT, "whole", "a POD's reply buffer");
     expect(costerbloom_back(13, bass->number, memory, pod->memory) == REFUSED + SHORT, "back", "a POD's memory");
     expect(take(&open, 1, pod->number, bass->memory, bass->longest) == NOT_SOUND, "take", "5500 bytes stored on a POD");
     expect(take(&open, 1, bass->number, bass->memory, bass->longest) == TAKEN, "take", "5500 stored on a Bass POD");
@@ -178,20 +178,32 @@ static void expect_dump(const struct kind *k, const struct kind *other, const ui
     expect(answer == STORED, "take", "a dump");
 }
 
-/* Every program change; the last that a Bass POD takes, 36, brings that program into the edit buffer. */
-static void expect_changes(const struct kind *k, const uint8_t *dump)
+/* Every program change: 1 to 36 brings program 0 to 35 into a Bass POD's edit buffer, no other does anything. */
+static void expect_changes(const struct kind *k)
 {
-    const uint8_t ask_edit[] = {0xF0, 0, 1, 0x0C, k->device, 0, 1, 0xF7};
+    const uint8_t *edit = memory + k->memory - k->program;
     costerbloom_receiver receiver = {.running = 0xC0};
+    uint8_t before[COSTERBLOOM_BASS_POD_PROGRAM] = {0};
     for (uint8_t program = 0; program < 128; program++) {
         uint64_t answer = take(&receiver, program, k->number, k->memory, k->longest);
         _Bool taken = k == bass && program >= 1 && program <= 36;
         expect(answer == (taken ? STORED : NO_CONTROLLER), "take", "a program change");
+        const uint8_t *now = taken ? memory + (program - 1) * k->program : before;
+        for (size_t place = 0; place < k->program; place++) {
+            expect(edit[place] == now[place], "take", "what a program change does");
+            before[place] = edit[place];
+        }
     }
+}
+
+/* The edit buffer asked for: on a Bass POD now the last program, whose half bytes these are. */
+static void expect_edit(const struct kind *k, const uint8_t *halves)
+{
+    const uint8_t ask_edit[] = {0xF0, 0, 1, 0x0C, k->device, 0, 1, 0xF7};
     uint64_t answer = whole(ask_edit, sizeof ask_edit, k->number, k->memory, k->longest);
     expect(answer == REPLIED + ((9 + 2 * k->program) << 8), "whole", "a request for the edit buffer");
     for (size_t place = 0; place < 2 * k->program; place++)
-        expect(reply[8 + place] == (k == bass ? dump[9 + place] : 0), "whole", "the edit buffer");
+        expect(reply[8 + place] == (k == bass ? halves[place] : 0), "whole", "the edit buffer");
 }
 
 static void expect_programs(const struct kind *k)
@@ -203,7 +215,8 @@ static void expect_programs(const struct kind *k)
     dump[length - 1] = 0xF7;
     fill(memory, sizeof memory, 0);
     expect_dump(k, k == pod ? bass : pod, dump, length);
-    expect_changes(k, dump);
+    expect_changes(k);
+    expect_edit(k, dump + 9);
 }
 
 /* Bench cases of document 01, the least number of Req 01, and numbers that must not be cut to a byte. */

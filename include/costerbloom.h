@@ -1,19 +1,18 @@
 /* Costerbloom: the proved heart of a small MIDI box, for firmware.
  *
- * A box is set as one kind of unit before use, POD or Bass POD: every call brings the kind, and all that is lent is of
- * that kind. Memory, receivers and receive buffers of one kind are not those of the other.
+ * A box is set as one kind of unit before use, POD or Bass POD, and every call brings that kind. Programs of the two
+ * stand at different places of memory: a box that is set as the other kind begins with fresh memory and receivers.
  *
- * The caller owns every buffer; no call keeps a pointer, allocates, or waits. Lent at least, for the kind:
+ * The caller owns every buffer; no call keeps a pointer, allocates, or waits. Lent at least:
  *
- *                                              POD   Bass POD   either
- *   a program                                   72         80
- *   memory                                   2,664      2,960    2,960   36 programs, then the edit buffer
- *   a receive buffer for each socket         5,193      5,769    5,769   the longest message
- *   a reply buffer                           5,193      5,769    5,769
+ *                                                   POD   Bass POD   either
+ *   memory: 36 programs, then the edit buffer     2,664      2,960    2,960
+ *   a receive buffer for each socket              5,193      5,769    5,769
+ *   a reply buffer                                5,193      5,769    5,769
  *
- * Fresh memory is all zero. More may be lent; the rest is not touched. What a call is lent must not overlap, no other
- * call may use it meanwhile, and no pointer may be null, not even with a length of 0. A call takes less than 2 KB of
- * stack.
+ * A program has 72 bytes on a POD and 80 on a Bass POD, and so has the edit buffer. Fresh memory is all zero. More may
+ * be lent; the rest is not touched. What a call is lent must not overlap, no other call may use it meanwhile, and no
+ * pointer may be null, not even with a length of 0. A call takes less than 2 KB of stack.
  *
  * Settings, the same for both kinds: channel 0 to 15, omni 0 or 1, four revision bytes of at most 0x7F.
  */
@@ -66,16 +65,16 @@ typedef struct {
  *    3  controller applied                        21  channel message other than a controller, or, on a
  *    4  SysEx cut                                     Bass POD, than a program change of 1 to 36
  *   10  SysEx too long                            22  identity request for another channel, not omni
- *   11  not ours; another kind's is not           30  a lent buffer too short
+ *   11  not ours, or the other kind's             30  a lent buffer too short
  *   12  opcode or type unknown or missing         31  socket not 0 or 1
  *   13  wrong length                              32  a kind that is none (tested before 30); receiver
  *   14  program above 0x23                            not sound, or a setting out of range (tested
  *   15  version not 0                                 after 31)
  *
- * The kind's own lengths are meant: by 10, 13 and 30, and by 32 of a receiver, which is sound with at most the kind's
- * longest message less one byte stored. After 2, send the first `reply length` bytes of the reply buffer; after any
- * other number the length is 0. From 10 on no byte of memory or of the reply buffer has changed; from 30 on nothing at
- * all has, the receiver neither. */
+ * 10, 13 and 30 go by the kind's own lengths, and so does 32: a sound receiver has at most 5,192 bytes stored on a POD,
+ * 5,768 on a Bass POD. After 2, send the first `reply length` bytes of the reply buffer; after any other number the
+ * length is 0. From 10 on no byte of memory or of the reply buffer has changed; from 30 on nothing at all has, the
+ * receiver neither. */
 uint64_t costerbloom_take(costerbloom_receiver *receiver, uint32_t socket, uint8_t byte, uint32_t kind,
     uint8_t channel, uint8_t omni, uint8_t revision0, uint8_t revision1, uint8_t revision2, uint8_t revision3,
     uint8_t *memory, size_t memory_length, uint8_t *receive, size_t receive_length,
