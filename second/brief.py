@@ -6,7 +6,7 @@ from random import Random
 from box import REPLY
 from chance import add_random
 from judging import add_identities, add_orders, add_others, add_unknown
-from kinds import EDIT, PROGRAM, others
+from kinds import EDIT, EVERY_CONTROLLER, PROGRAM, others
 from lent import (NO_CONTROLLERS, add_back, add_back_order, add_beyond,
                   add_lengths, add_long_buffers, add_odd, add_receivers,
                   add_scale_order, add_scaling, add_stale, add_turned_away,
@@ -23,7 +23,7 @@ from switched import (NO_KINDS, add_no_kinds, add_other_buffers,
 
 
 def add_opening(script):
-    """Every number of the table, with both sockets fresh at the end."""
+    """Every number that the kind can give; both sockets fresh at the end."""
     for socket in (0, 1):
         # what stands in the receive buffer is judged: no F0 in front, 11
         script.receiver(socket, stored=1, inside=1)
@@ -98,6 +98,7 @@ def add_pod(script):
     add_lent(script, (25, 13, 4, 12, 23, 30, 62, 49, 52, 56, *kind.at_least))
     add_scaling(script, kind.at_least, range(1, 8))
     add_turned_away(script)
+    add_other_buffers(script)
     add_bytes(script)
     add_unknown(kind, script.whole)
     add_orders(kind, partial(script.feed, 1))
@@ -115,7 +116,7 @@ def add_other(script):
     add_scale_order(script)
     add_changes(script, 0)
     add_recalled(script)
-    add_controllers(script, 1, (15, 64))
+    add_controllers(script, 1, (15, 16, 63, 64), EVERY_CONTROLLER)
     add_pieces(script)
     add_others(kind, script.whole)
     for channel in (0, 0x7F):

@@ -171,8 +171,8 @@ BASS = Kind(
 KINDS = (POD, BASS)
 BY_NUMBER = {kind.number: kind for kind in KINDS}
 BY_WORD = {kind.word: kind for kind in KINDS}
-EVERY_CONTROLLER = tuple({controller: None for kind in KINDS
-                          for controller in kind.table})
+EVERY_CONTROLLER = tuple(dict.fromkeys(
+    controller for kind in KINDS for controller in kind.table))
 
 
 def others(kind):

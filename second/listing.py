@@ -114,7 +114,7 @@ def main():
     if what == 'stream':
         data = stream(kind)
         shown = {fields[1] for fields in lines(kind, data)} - {'number'}
-        amiss = shown ^ NUMBERS & rows_of(kind)
+        amiss = shown ^ (NUMBERS & rows_of(kind))
         assert not amiss, f'missing, or not to be there: {amiss}'
         sys.stdout.buffer.write(data)
     else:

@@ -37,7 +37,7 @@ def make(name):
     script = maker()
     _, player = play(script)
     for kind, rows in zip(KINDS, tally(player.given)):
-        amiss = {*rows} ^ rows_of(kind) - others
+        amiss = {*rows} ^ (rows_of(kind) - others)
         assert not amiss, (f'{name}, {kind.word}: not shown, or not to be '
                            f'shown: {amiss}')
     return script

@@ -162,12 +162,12 @@ def add_recalled(script):
         script.whole(request(kind, EDIT))
 
 
-def add_controllers(script, socket, values):
-    """Every controller with several values, over a mixed edit buffer."""
+def add_controllers(script, socket, values, controllers=range(128)):
+    """Controllers with several values, over a mixed edit buffer."""
     kind = script.kind
     script.feed(socket, dump(kind, EDIT, noise(3, kind.halves)))
     for value in values:
-        pairs = ((controller, value) for controller in range(128))
+        pairs = ((controller, value) for controller in controllers)
         script.feed(socket, bytes((0xB0, *chain.from_iterable(pairs))))
         script.send(socket, request(kind, EDIT))
 
