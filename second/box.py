@@ -37,8 +37,7 @@ EVERY_CHANNEL = 0x7F  # "Taken when cc is the channel, or 7F"
 # "F0 7E cc 06 02 00 01 0C ..", after cc and up to what the kind says it is
 IDENTITY_REPLY = bytes((6, 2)) + MAKER
 
-# The kinds of channel messages that are looked into, by a status byte's upper
-# half
+# The channel messages that are looked into, by a status byte's upper half
 CONTROLLER, PROGRAM_CHANGE = 0xB, 0xC
 
 # The buffers that are lent, in the order of a kind's least lengths
@@ -308,7 +307,8 @@ class Box:
 
     def judge_channel(self, status, first, second=0):
         """Return the number of a finished channel message."""
-        # "a finished channel message 20, 21, 17, 18, 19"
+        # "a finished channel message 20, 21, 17, 18, 19"; Req 04: "a program
+        # change .. that passes check 20"
         if not self.settings.hear(status & 0x0F):
             return OTHER_CHANNEL
         if status >> 4 == PROGRAM_CHANGE and first in self.kind.changes:
@@ -327,7 +327,8 @@ class Box:
         # "A finished SysEx is tested 10, 11, 12, 13, 14, 15, 16"
         if is_identity(message):
             return self.identify(message[2])
-        # "All the rest begins F0 00 01 0C 01, else 11, too short included."
+        # "All the rest begins F0 00 01 0C 01, else 11, too short included.",
+        # or 02 as Req 04 has it
         if not message.startswith(self.kind.header):
             return NOT_OURS, 0
         fields = message[len(self.kind.header):-1]

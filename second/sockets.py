@@ -46,7 +46,7 @@ def add_running(script, socket):
 
 
 def add_real_time(script, socket):
-    """F8 to FF inside a SysEx of each kind."""
+    """F8 to FF inside an identity request and a dump of each type."""
     clocks = bytes(range(0xF8, 0x100))
     script.send_hex(socket, 'F0 F8 7E F9 7F FA 06 FB 01 FC FD FE FF F7')
     for given, asked in dumps(script.kind, 7):
@@ -109,13 +109,13 @@ def add_too_long(script, socket):
 
 
 def add_channels(script, socket, settings):
-    """Every kind of channel message on every channel."""
+    """Every sort of channel message on every channel."""
     for channel, omni in settings:
         script.settings(channel, omni)
         for sent in range(16):
             script.feed(socket, b''.join(
-                bytes((kind << 4 | sent, 13, 8 * channel + sent))
-                for kind in range(0x8, 0xF)))
+                bytes((upper << 4 | sent, 13, 8 * channel + sent))
+                for upper in range(0x8, 0xF)))
     # the settings at the last byte decide
     for channel, omni in ((5, 0), (6, 0), (6, 1), (5, 0)):
         script.settings(0, 0)
