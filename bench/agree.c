@@ -1,19 +1,38 @@
-/* Whether the plain side is the same box: every value scaled, the shared fields shown back, then random calls to both,
- * compared in every bit that is left. */
+/* Whether the plain side is the same box: every value scaled, bytes of the edit buffer shown back, then random calls to
+ * both, compared in every bit that is left. Both kinds, and numbers that are none. */
 #include "side.h"
 
+enum { KINDS = 2, NO_KINDS = 4 };
+
+/* Each of these is a kind's number if it is cut. */
+static const uint32_t NO_KIND[NO_KINDS] = {2, 256, 65537, 0xFFFFFFFF};
+
+/* What the random calls must know of each kind. */
+static const struct {
+    size_t program, memory, longest;
+} KIND[KINDS] = {
+    {COSTERBLOOM_POD_PROGRAM, COSTERBLOOM_POD_MEMORY, COSTERBLOOM_POD_LONGEST},
+    {COSTERBLOOM_BASS_POD_PROGRAM, COSTERBLOOM_BASS_POD_MEMORY, COSTERBLOOM_BASS_POD_LONGEST},
+};
+
 typedef struct {
-    uint32_t socket;
+    uint32_t socket, kind;
     uint8_t channel, omni, revision3;
     size_t memory, receive, reply;
 } given;
 
-/* Mostly right, now and then just outside a range. */
-static given any_given(uint64_t *seed)
+/* All in range, with the shortest buffers that the kind allows. */
+static given any_given(uint32_t kind, uint64_t *seed)
 {
-    given g = {below(seed, 2), (uint8_t)below(seed, 2), (uint8_t)below(seed, 2), 0x7F, COSTERBLOOM_MEMORY,
-        COSTERBLOOM_LONGEST, COSTERBLOOM_LONGEST};
-    switch (below(seed, 500)) {
+    return (given){below(seed, 2), kind, (uint8_t)below(seed, 2), (uint8_t)below(seed, 2), 0x7F, KIND[kind].memory,
+        KIND[kind].longest, KIND[kind].longest};
+}
+
+/* One thing just outside its range, or a kind that is none, whatever the buffers. */
+static given any_amiss(uint32_t kind, uint64_t *seed)
+{
+    given g = any_given(kind, seed);
+    switch (below(seed, 9)) {
         case 0: g.socket = 2; break;
         case 1: g.channel = 16; break;
         case 2: g.omni = 2; break;
@@ -21,83 +40,104 @@ static given any_given(uint64_t *seed)
         case 4: g.memory--; break;
         case 5: g.receive--; break;
         case 6: g.reply--; break;
+        case 7: g.kind = NO_KIND[below(seed, NO_KINDS)]; break;
+        default:
+            g.kind = NO_KIND[below(seed, NO_KINDS)];
+            g.memory = g.receive = g.reply = 0;
     }
     return g;
 }
 
 static costerbloom_receiver any_receiver(uint64_t *seed)
 {
-    static const uint16_t STORED[] = {0, 0, 1, 2, 8, 152, 5191, 5192, 5193, 65535};
+    static const uint16_t STORED[] = {0, 0, 0, 1, 2, 8, 152, 5191, 5192, 5193, 5767, 5768, 5769, 65535};
     static const uint8_t FLAG[] = {0, 0, 0, 1, 1, 2},
                          RUNNING[] = {0, 0, 0x7F, 0x80, 0xB0, 0xBF, 0xC0, 0xDF, 0xEF, 0xF0};
-    return (costerbloom_receiver){STORED[below(seed, 10)], FLAG[below(seed, 6)], FLAG[below(seed, 4)],
-        RUNNING[below(seed, 10)], FLAG[below(seed, 6)], below(seed, 3) ? 0 : (uint8_t)below(seed, 256)};
+    return (costerbloom_receiver){STORED[below(seed, sizeof STORED / sizeof *STORED)], FLAG[below(seed, 6)],
+        FLAG[below(seed, 4)], RUNNING[below(seed, 10)], FLAG[below(seed, 6)],
+        below(seed, 3) ? 0 : (uint8_t)below(seed, 256)};
 }
 
 static int take_same(box *a, box *b, uint8_t byte, const given *g)
 {
-    uint64_t x = costerbloom_take(&a->receiver, g->socket, byte, g->channel, g->omni, 1, 2, 3, g->revision3, a->memory,
-        g->memory, a->receive, g->receive, a->reply, g->reply);
-    uint64_t y = plain_take(&b->receiver, g->socket, byte, g->channel, g->omni, 1, 2, 3, g->revision3, b->memory,
-        g->memory, b->receive, g->receive, b->reply, g->reply);
+    uint64_t x = costerbloom_take(&a->receiver, g->socket, byte, g->kind, g->channel, g->omni, 1, 2, 3, g->revision3,
+        a->memory, g->memory, a->receive, g->receive, a->reply, g->reply);
+    uint64_t y = plain_take(&b->receiver, g->socket, byte, g->kind, g->channel, g->omni, 1, 2, 3, g->revision3,
+        b->memory, g->memory, b->receive, g->receive, b->reply, g->reply);
     return x == y && same_receiver(&a->receiver, &b->receiver);
 }
 
 static int whole_same(box *a, box *b, const uint8_t *message, size_t length, const given *g)
 {
-    return costerbloom_whole(message, length, g->channel, g->omni, 1, 2, 3, g->revision3, a->memory, g->memory,
-               a->reply, g->reply) == plain_whole(message, length, g->channel, g->omni, 1, 2, 3, g->revision3,
-                                          b->memory, g->memory, b->reply, g->reply);
+    return costerbloom_whole(message, length, g->kind, g->channel, g->omni, 1, 2, 3, g->revision3, a->memory,
+               g->memory, a->reply, g->reply) == plain_whole(message, length, g->kind, g->channel, g->omni, 1, 2, 3,
+                                                     g->revision3, b->memory, g->memory, b->reply, g->reply);
 }
 
-static int scales_same(void)
+static int scales_same(uint32_t kind)
 {
     for (uint32_t controller = 0; controller < 140; controller++)
         for (uint32_t value = 0; value < 140; value++)
-            if (costerbloom_scale(controller, value) != plain_scale(controller, value))
+            if (costerbloom_scale(controller, value, kind) != plain_scale(controller, value, kind))
                 return 0;
     return 1;
 }
 
-static int shows_same(const uint8_t *memory)
+static int shows_same(const uint8_t *memory, uint32_t kind, uint32_t first, uint32_t last)
 {
-    for (uint32_t controller = 42; controller < 60; controller++)
-        if (costerbloom_back(memory, COSTERBLOOM_MEMORY, controller) !=
-            plain_back(memory, COSTERBLOOM_MEMORY, controller))
+    for (uint32_t controller = first; controller <= last; controller++)
+        if (costerbloom_back(controller, kind, memory, KIND[kind].memory) !=
+            plain_back(controller, kind, memory, KIND[kind].memory))
             return 0;
     return 1;
 }
 
-/* Each effect's fields at every number up to the highest that a formula gives. A field of two bytes begins at an even
- * place or at an odd one; each number stands at both, one after the other. */
+/* A POD: each effect's fields at every number up to the highest that a formula gives. A field of two bytes begins at an
+ * even place or at an odd one; each number stands at both, one after the other. */
 static int fields_same(void)
 {
-    enum { HIGHEST = 6350, EDIT = COSTERBLOOM_MEMORY - COSTERBLOOM_PROGRAM };
+    enum { HIGHEST = 6350, EDIT = COSTERBLOOM_POD_MEMORY - COSTERBLOOM_POD_PROGRAM };
     static const uint8_t SELECTING[] = {14, 7, 0, 2, 5};
-    static uint8_t memory[COSTERBLOOM_MEMORY];
+    static uint8_t memory[COSTERBLOOM_POD_MEMORY];
     for (size_t effect = 0; effect < sizeof SELECTING; effect++) {
         memory[EDIT + 46] = SELECTING[effect];
         for (uint32_t turn = 0; turn <= 2 * HIGHEST + 1; turn++) {
             for (uint32_t place = 48; place <= 54; place++)
                 memory[EDIT + place] = (uint8_t)(place % 2 == turn % 2 ? turn / 2 : turn / 2 / 256);
-            if (!shows_same(memory))
+            if (!shows_same(memory, COSTERBLOOM_POD, 42, 59))
                 return 0;
         }
     }
     return 1;
 }
 
-int panel_agrees(void)
+/* A Bass POD, whose controllers have a byte each: every number in all of them. */
+static int numbers_same(void)
 {
-    return scales_same() && fields_same();
+    static uint8_t memory[COSTERBLOOM_BASS_POD_MEMORY];
+    for (uint32_t number = 0; number < 256; number++) {
+        for (size_t place = 0; place < COSTERBLOOM_BASS_POD_PROGRAM; place++)
+            memory[sizeof memory - 1 - place] = (uint8_t)number;
+        if (!shows_same(memory, COSTERBLOOM_BASS_POD, 0, 140))
+            return 0;
+    }
+    return 1;
 }
 
-static int panel_same(const box *a, const box *b, uint64_t *seed)
+int panel_agrees(void)
+{
+    for (size_t i = 0; i < NO_KINDS; i++)
+        if (!scales_same(NO_KIND[i]))
+            return 0;
+    return scales_same(COSTERBLOOM_POD) && scales_same(COSTERBLOOM_BASS_POD) && fields_same() && numbers_same();
+}
+
+static int panel_same(const box *a, const box *b, const given *g, uint64_t *seed)
 {
     uint32_t controller = below(seed, 140), value = below(seed, 140);
-    return costerbloom_scale(controller, value) == plain_scale(controller, value) &&
-           costerbloom_back(a->memory, sizeof a->memory, controller) ==
-               plain_back(b->memory, sizeof b->memory, controller);
+    return costerbloom_scale(controller, value, g->kind) == plain_scale(controller, value, g->kind) &&
+           costerbloom_back(controller, g->kind, a->memory, g->memory) ==
+               plain_back(controller, g->kind, b->memory, g->memory);
 }
 
 static size_t put(uint8_t *message, const uint8_t *bytes, size_t count)
@@ -106,20 +146,19 @@ static size_t put(uint8_t *message, const uint8_t *bytes, size_t count)
     return count;
 }
 
-static const uint8_t HEADER[] = {0xF0, 0x00, 0x01, 0x0C, 0x01};
-
-/* A request or a dump of any kind, often with one thing wrong. */
-static size_t any_sysex(uint8_t *message, uint64_t *seed)
+/* A request or a dump of any form, often with one thing wrong. */
+static size_t any_sysex(uint8_t *message, uint32_t kind, uint64_t *seed)
 {
-    uint32_t opcode = below(seed, 9) / 4, type = below(seed, 10) / 3, wrong = below(seed, 6);
-    size_t length = put(message, HEADER, sizeof HEADER);
+    const uint8_t header[] = {0xF0, 0x00, 0x01, 0x0C, (uint8_t)(1 + kind)};
+    uint32_t opcode = below(seed, 9) / 4, type = below(seed, 10) / 3, wrong = below(seed, 7);
+    size_t length = put(message, header, sizeof header);
     message[length++] = (uint8_t)opcode;
     message[length++] = (uint8_t)type;
     if (type == 0)
         message[length++] = (uint8_t)below(seed, 38);
     if (opcode == 1) {
         message[length++] = wrong == 0;
-        size_t end = length + (type == 2 ? 5184 : 144) - (wrong == 1);
+        size_t end = length + 2 * KIND[kind].program * (type == 2 ? 36 : 1) - (wrong == 1) + (wrong == 4);
         while (length < end)
             message[length++] = (uint8_t)below(seed, 16);
     }
@@ -128,6 +167,16 @@ static size_t any_sysex(uint8_t *message, uint64_t *seed)
     if (wrong == 3)
         length = below(seed, (uint32_t)length) + 1;
     message[length++] = 0xF7;
+    return length;
+}
+
+/* Of the other kind now and then, and now and then with the other kind's device byte alone. */
+static size_t any_kind_of_sysex(uint8_t *message, uint32_t kind, uint64_t *seed)
+{
+    uint32_t other = below(seed, 12);
+    size_t length = any_sysex(message, other == 0 ? 1 - kind : kind, seed);
+    if (other == 1)
+        message[4] ^= 3;
     return length;
 }
 
@@ -157,15 +206,48 @@ static size_t any_controllers(uint8_t *message, uint64_t *seed)
     return length;
 }
 
-static size_t any_message(uint8_t *message, uint64_t *seed)
+static size_t any_program_changes(uint8_t *message, uint64_t *seed)
 {
-    switch (below(seed, 8)) {
+    size_t length = 0, count = below(seed, 12);
+    message[length++] = (uint8_t)(0xC0 + below(seed, 2));
+    while (length <= count)
+        message[length++] = (uint8_t)below(seed, below(seed, 4) ? 39 : 128);
+    return length;
+}
+
+static size_t any_message(uint8_t *message, uint32_t kind, uint64_t *seed)
+{
+    switch (below(seed, 9)) {
         case 0: return any_identity(message, seed);
         case 1: return any_bytes(message, seed);
         case 2:
         case 3: return any_controllers(message, seed);
-        default: return any_sysex(message, seed);
+        case 4: return any_program_changes(message, seed);
+        default: return any_kind_of_sysex(message, kind, seed);
     }
+}
+
+static int once_same(box *a, box *b, const uint8_t *message, size_t length, uint32_t kind, uint64_t *seed)
+{
+    given g = below(seed, 8) ? any_given(kind, seed) : any_amiss(kind, seed);
+    return whole_same(a, b, message, length, &g) && panel_same(a, b, &g, seed);
+}
+
+/* Byte by byte. A call that is refused may come before any byte, and loses none; now and then the kind is another from
+ * some byte on. */
+static int bytes_same(box *a, box *b, const uint8_t *message, size_t length, uint32_t kind, uint64_t *seed)
+{
+    size_t other_from = below(seed, 16) ? length : below(seed, (uint32_t)length);
+    for (size_t i = 0; i < length; i++) {
+        if (i == other_from)
+            kind = 1 - kind;
+        given amiss = any_amiss(kind, seed), g = any_given(kind, seed);
+        if (below(seed, 50) == 0 && !take_same(a, b, message[i], &amiss))
+            return 0;
+        if (!take_same(a, b, message[i], &g))
+            return 0;
+    }
+    return 1;
 }
 
 uint32_t agree(box *library, box *plain, uint32_t calls)
@@ -174,19 +256,18 @@ uint32_t agree(box *library, box *plain, uint32_t calls)
     uint64_t seed = 0x9E3779B97F4A7C15;
     uint32_t count = 0;
     while (count < calls) {
-        size_t length = any_message(message, &seed);
-        given g = any_given(&seed);
-        if (below(&seed, 8) == 0)
+        uint32_t kind = below(&seed, KINDS);
+        size_t length = any_message(message, kind, &seed);
+        _Bool wild = below(&seed, 8) == 0;
+        if (wild)
             library->receiver = plain->receiver = any_receiver(&seed);
-        if (!whole_same(library, plain, message, length, &g) || !panel_same(library, plain, &seed))
+        if (!once_same(library, plain, message, length, kind, &seed))
             return count;
-        for (size_t i = 0; i < length; i++, count++) {
-            g = any_given(&seed);
-            if (!take_same(library, plain, message[i], &g))
-                return count;
-        }
-        if (!same_box(library, plain))
+        if (!bytes_same(library, plain, message, length, kind, &seed) || !same_box(library, plain))
             return count;
+        count += (uint32_t)length;
+        if (wild) /* an unsound one would refuse all that comes */
+            library->receiver = plain->receiver = (costerbloom_receiver){0};
     }
     return calls;
 }

@@ -1,14 +1,10 @@
 /* The same work by the library and by plain C, alternating in one run. docs/MEASUREMENTS.md says the method. */
 #include "side.h"
+#include <system.h>
 
-/* What is used of the C library; the kit has no headers for it. */
-struct timespec {
-    long seconds, nanoseconds;
-};
-int clock_gettime(int clock, struct timespec *now);
+/* What is used of the C library beside it; the kit has no headers. */
 int printf(const char *form, ...);
 void qsort(void *base, size_t count, size_t size, int (*order)(const void *, const void *));
-enum { MONOTONIC = 1 };
 
 enum { ROUNDS = 1000, WARM_UP = 100, MOVES = 8192, AGREED = 3000000 };
 
@@ -20,59 +16,76 @@ typedef struct {
 } work;
 
 static _Alignas(4096) box boxes[2];
-static uint8_t dump[COSTERBLOOM_LONGEST], moves[1 + 2 * MOVES], turns[1 + 2 * MOVES];
-static const uint8_t HEADER[] = {0xF0, 0x00, 0x01, 0x0C, 0x01}, REQUEST[] = {0xF0, 0, 1, 0x0C, 1, 0, 2, 0xF7};
+static uint8_t dump[COSTERBLOOM_POD_LONGEST], bass_dump[COSTERBLOOM_BASS_POD_LONGEST];
+static uint8_t moves[1 + 2 * MOVES], turns[1 + 2 * MOVES];
+static const uint8_t REQUEST[] = {0xF0, 0, 1, 0x0C, 1, 0, 2, 0xF7}, BASS_REQUEST[] = {0xF0, 0, 1, 0x0C, 2, 0, 2, 0xF7};
 
 /* ---- the work, written once for both sides: each side's function is inlined into it, and calls it directly */
 
 #define ONCE static inline __attribute__((always_inline)) uint64_t
 
-ONCE taken(take_call *take, box *b, uint8_t byte)
+/* The largest buffers are lent, as a box does that may be set as either kind. */
+ONCE taken(take_call *take, uint32_t kind, box *b, uint8_t byte)
 {
-    return take(&b->receiver, 0, byte, 0, 0, 0x30, 0x31, 0x30, 0x30, b->memory, sizeof b->memory, b->receive,
+    return take(&b->receiver, 0, byte, kind, 0, 0, 0x30, 0x31, 0x30, 0x30, b->memory, sizeof b->memory, b->receive,
         sizeof b->receive, b->reply, sizeof b->reply);
 }
 
 /* The answers are kept, so that no call can be left out, and compared. */
-ONCE fed(take_call *take, box *b, const uint8_t *bytes, size_t count)
+ONCE fed(take_call *take, uint32_t kind, box *b, const uint8_t *bytes, size_t count)
 {
     uint64_t answers = 0;
     for (size_t i = 0; i < count; i++)
-        answers = 3 * answers + taken(take, b, bytes[i]);
+        answers = 3 * answers + taken(take, kind, b, bytes[i]);
     return answers;
 }
 
 ONCE dump_in(take_call *take, box *b)
 {
-    return fed(take, b, dump, sizeof dump);
+    return fed(take, COSTERBLOOM_POD, b, dump, sizeof dump);
+}
+
+ONCE bass_dump_in(take_call *take, box *b)
+{
+    return fed(take, COSTERBLOOM_BASS_POD, b, bass_dump, sizeof bass_dump);
 }
 
 /* So many that a turn is long beside a look at the clock. */
 enum { REQUESTS = 32, BYTES = 8192, CALLS = 32, SHOWN = 1024 };
 
-ONCE reply_out(take_call *take, box *b)
+ONCE asked(take_call *take, uint32_t kind, box *b, const uint8_t *request)
 {
     uint64_t answers = 0;
     for (int i = 0; i < REQUESTS; i++)
-        answers = 3 * answers + fed(take, b, REQUEST, sizeof REQUEST);
+        answers = 3 * answers + fed(take, kind, b, request, sizeof REQUEST);
     return answers;
+}
+
+ONCE reply_out(take_call *take, box *b)
+{
+    return asked(take, COSTERBLOOM_POD, b, REQUEST);
+}
+
+ONCE bass_reply_out(take_call *take, box *b)
+{
+    return asked(take, COSTERBLOOM_BASS_POD, b, BASS_REQUEST);
 }
 
 ONCE mixed_moves(take_call *take, box *b)
 {
-    return fed(take, b, moves, sizeof moves);
+    return fed(take, COSTERBLOOM_POD, b, moves, sizeof moves);
 }
 
 ONCE one_knob(take_call *take, box *b)
 {
-    return fed(take, b, turns, sizeof turns);
+    return fed(take, COSTERBLOOM_POD, b, turns, sizeof turns);
 }
 
 ONCE real_time(take_call *take, box *b)
 {
     uint64_t answers = 0;
     for (int i = 0; i < BYTES; i++)
-        answers = 3 * answers + taken(take, b, (uint8_t)(0xF8 + i % 8));
+        answers = 3 * answers + taken(take, COSTERBLOOM_POD, b, (uint8_t)(0xF8 + i % 8));
     return answers;
 }
 
@@ -82,7 +95,7 @@ ONCE last_byte(take_call *take, box *b)
     uint64_t answers = 0;
     for (int i = 0; i < CALLS; i++) {
         b->receiver = (costerbloom_receiver){.stored = sizeof dump - 1, .inside = 1};
-        answers = 3 * answers + taken(take, b, 0xF7);
+        answers = 3 * answers + taken(take, COSTERBLOOM_POD, b, 0xF7);
     }
     return answers;
 }
@@ -91,8 +104,8 @@ ONCE from_panel(whole_call *whole, box *b)
 {
     uint64_t answers = 0;
     for (int i = 0; i < CALLS; i++)
-        answers = 3 * answers + whole(dump, sizeof dump, 0, 0, 0x30, 0x31, 0x30, 0x30, b->memory, sizeof b->memory,
-                                    b->reply, sizeof b->reply);
+        answers = 3 * answers + whole(dump, sizeof dump, COSTERBLOOM_POD, 0, 0, 0x30, 0x31, 0x30, 0x30, b->memory,
+                                    sizeof b->memory, b->reply, sizeof b->reply);
     return answers;
 }
 
@@ -100,7 +113,7 @@ ONCE shown(back_call *back, box *b, uint32_t controller)
 {
     uint64_t answers = 0;
     for (int i = 0; i < SHOWN; i++)
-        answers = 3 * answers + back(b->memory, sizeof b->memory, controller);
+        answers = 3 * answers + back(controller, COSTERBLOOM_POD, b->memory, sizeof b->memory);
     return answers;
 }
 
@@ -114,14 +127,14 @@ ONCE shown_of_sheet(back_call *back, box *b)
     return shown(back, b, 23);
 }
 
-#define SIDES(name, kind)                                                                                              \
+#define SIDES(name, call)                                                                                              \
     static uint64_t name##_library(box *b)                                                                             \
     {                                                                                                                  \
-        return name(costerbloom_##kind, b);                                                                            \
+        return name(costerbloom_##call, b);                                                                            \
     }                                                                                                                  \
     static uint64_t name##_plain(box *b)                                                                               \
     {                                                                                                                  \
-        return name(plain_##kind, b);                                                                                  \
+        return name(plain_##call, b);                                                                                  \
     }
 
 SIDES(dump_in, take)
@@ -133,18 +146,20 @@ SIDES(last_byte, take)
 SIDES(from_panel, whole)
 SIDES(shown_back, back)
 SIDES(shown_of_sheet, back)
+SIDES(bass_dump_in, take)
+SIDES(bass_reply_out, take)
 
 /* ---- what is fed */
 
-static void make_dump(void)
+/* The dump that answers a request for all programs. */
+static void make_dump(uint8_t *message, size_t length, const uint8_t *request)
 {
     uint64_t seed = 36;
-    __builtin_memcpy(dump, HEADER, sizeof HEADER);
-    dump[5] = 1;
-    dump[6] = 2;
-    for (size_t i = 8; i < sizeof dump - 1; i++)
-        dump[i] = (uint8_t)below(&seed, 16);
-    dump[sizeof dump - 1] = 0xF7;
+    __builtin_memcpy(message, request, 7);
+    message[5] = 1;
+    for (size_t i = 8; i < length - 1; i++)
+        message[i] = (uint8_t)below(&seed, 16);
+    message[length - 1] = 0xF7;
 }
 
 /* Each of the 49 controllers as often as the others, in no order, so that all formulas and effects come up; one in 16
@@ -181,7 +196,7 @@ static void with_dump(box *b)
 /* Bytes 9 and 16 hold what no value of controllers 13 and 23 gives: every value is in vain. */
 static void with_none(box *b)
 {
-    uint8_t *edit = b->memory + COSTERBLOOM_MEMORY - COSTERBLOOM_PROGRAM;
+    uint8_t *edit = b->memory + COSTERBLOOM_POD_MEMORY - COSTERBLOOM_POD_PROGRAM;
     fresh(b);
     edit[9] = edit[16] = 0xFF;
 }
@@ -203,6 +218,8 @@ static const work WORKS[] = {
     {"one call: a long dump, panel", "call", CALLS, fresh, from_panel_library, from_panel_plain},
     {"one call: shown back, none found", "call", SHOWN, with_none, shown_back_library, shown_back_plain},
     {"one call: the same, of the sheet", "call", SHOWN, with_none, shown_of_sheet_library, shown_of_sheet_plain},
+    {"Bass POD: a long dump in", "byte", sizeof bass_dump, fresh, bass_dump_in_library, bass_dump_in_plain},
+    {"Bass POD: a long reply out", "request", REQUESTS, fresh, bass_reply_out_library, bass_reply_out_plain},
 };
 
 /* ---- the method */
@@ -210,9 +227,9 @@ static const work WORKS[] = {
 static double time_of(uint64_t (*turn)(box *), box *b, uint64_t *answers)
 {
     struct timespec from, to;
-    clock_gettime(MONOTONIC, &from);
+    clock_gettime(CLOCK_MONOTONIC, &from);
     *answers = turn(b);
-    clock_gettime(MONOTONIC, &to);
+    clock_gettime(CLOCK_MONOTONIC, &to);
     return (double)(to.seconds - from.seconds) * 1e9 + (double)(to.nanoseconds - from.nanoseconds);
 }
 
@@ -266,7 +283,7 @@ static void count_moves(void)
     unsigned counts[32] = {0};
     fresh(&boxes[0]);
     for (size_t i = 0; i < sizeof moves; i++)
-        counts[taken(costerbloom_take, &boxes[0], moves[i]) & 31]++;
+        counts[taken(costerbloom_take, COSTERBLOOM_POD, &boxes[0], moves[i]) & 31]++;
     printf("# of %d mixed controllers %u are applied, %u not in the table, %u out of range, %u not selected\n", MOVES,
         counts[3], counts[17], counts[18], counts[19]);
 }
@@ -275,7 +292,8 @@ static void count_moves(void)
 int main(int words, char **unused)
 {
     (void)unused;
-    make_dump();
+    make_dump(dump, sizeof dump, REQUEST);
+    make_dump(bass_dump, sizeof bass_dump, BASS_REQUEST);
     make_moves();
     if (!panel_agrees()) {
         printf("a value is scaled or shown back otherwise by the plain side\n");

@@ -1,17 +1,10 @@
 /* What makes it fast: half bytes are tested by one OR over all of them and joined in loops that the compiler turns
  * into vector code, every formula is one multiplication, one shift and the greater of two numbers, and a byte's tests
- * stand in the order in which a running box meets them. Nothing is skipped: 30, 31 and 32 are tested at every call. */
+ * stand in the order in which a running box meets them. A call looks at its kind once, and goes on in code of that
+ * kind, in which lengths and places are constants. Nothing is skipped: 30, 31 and 32 are tested at every call. */
 #include "plain.h"
 
-enum {
-    PROGRAM = COSTERBLOOM_PROGRAM,
-    PROGRAMS = 36,
-    EDIT = PROGRAMS * PROGRAM,
-    MEMORY = COSTERBLOOM_MEMORY,
-    LONGEST = COSTERBLOOM_LONGEST,
-    LIMIT = LONGEST - 1,
-    REFUSAL = 65536
-};
+enum { PROGRAMS = 36, REFUSAL = 65536 };
 
 /* Numbers the box returns. */
 enum {
@@ -31,7 +24,7 @@ enum {
     OUT_OF_RANGE = 18,
     NOT_SELECTED = 19,
     OTHER_CHANNEL = 20,
-    OTHER_KIND = 21,
+    OTHER_MESSAGE = 21,
     OTHER_IDENTITY = 22,
     TOO_SHORT = 30,
     NO_SOCKET = 31,
@@ -43,10 +36,10 @@ typedef struct {
     uint8_t channel, omni, revision[4];
 } settings;
 
-static inline int are_valid(const settings *s)
+/* All bits of the four revision bytes are looked at together. */
+static inline int are_valid(uint8_t channel, uint8_t omni, uint8_t revision_bits)
 {
-    return s->channel <= 15 && s->omni <= 1 &&
-           (s->revision[0] | s->revision[1] | s->revision[2] | s->revision[3]) <= 0x7F;
+    return channel <= 15 && omni <= 1 && revision_bits <= 0x7F;
 }
 
 /* ---- half bytes */
@@ -107,7 +100,7 @@ enum { ALWAYS = 1, SWELL = 2, COMPRESSOR = 4, CHORUS = 8, ROTARY = 16, TREMOLO =
         0, 0, 26, 3, 127, ALWAYS, 0                                                                                    \
     }
 
-static const row ROWS[128] = {
+static const row POD_ROWS[128] = {
     [25] = V_64(0),
     [26] = V_64(1),
     [27] = V_64(2),
@@ -159,6 +152,50 @@ static const row ROWS[128] = {
     [59] = {65536, 0, 50, 1, 127, TREMOLO, 0},
 };
 
+static const row BASS_POD_ROWS[128] = {
+    [12] = V(3, 15),
+    [19] = V(49, 15),
+    [64] = V_64(2),
+    [13] = V_2(4),
+    [14] = V_2(6),
+    [15] = V_2(7),
+    [16] = V_2(8),
+    [17] = V_2(10),
+    [18] = V_2(11),
+    [1] = V_2(50),
+};
+
+/* All that hangs on a kind. A function over a unit is inlined (IN_KIND) where the unit is known, but for what is done
+ * with a finished SysEx, which is long beside the reading of a unit. */
+typedef struct {
+    size_t program; /* bytes of one */
+    uint8_t header[5], identity[4];
+    const row *rows;
+    int changes; /* whether a program change is taken */
+} unit;
+
+#define IN_KIND static inline __attribute__((always_inline))
+
+static const unit POD = {COSTERBLOOM_POD_PROGRAM, {0xF0, 0x00, 0x01, 0x0C, 0x01}, {0, 0, 0, 1}, POD_ROWS, 0};
+static const unit BASS_POD = {
+    COSTERBLOOM_BASS_POD_PROGRAM, {0xF0, 0x00, 0x01, 0x0C, 0x02}, {2, 0, 0, 0}, BASS_POD_ROWS, 1};
+
+IN_KIND size_t edit_of(const unit *u)
+{
+    return PROGRAMS * u->program;
+}
+
+IN_KIND size_t limit_of(const unit *u)
+{
+    return COSTERBLOOM_LONGEST_OF(u->program) - 1;
+}
+
+IN_KIND int is_short(const unit *u, size_t memory_length, size_t receive_length, size_t reply_length)
+{
+    return memory_length < COSTERBLOOM_MEMORY_OF(u->program) || receive_length < COSTERBLOOM_LONGEST_OF(u->program) ||
+           reply_length < COSTERBLOOM_LONGEST_OF(u->program);
+}
+
 /* What each value of byte 46 selects. */
 static const uint8_t SELECTED[16] = {CHORUS, CHORUS, ROTARY, CHORUS, CHORUS, TREMOLO, 0, COMPRESSOR, CHORUS, TREMOLO, 0,
     COMPRESSOR, CHORUS, CHORUS, SWELL, CHORUS};
@@ -199,9 +236,9 @@ static void store_m(uint8_t *bytes, uint32_t controller, uint32_t value)
     bytes[2] = (uint8_t)(number >> 16);
 }
 
-static inline uint32_t apply(uint32_t controller, uint32_t value, uint8_t *edit)
+IN_KIND uint32_t apply(const unit *u, uint32_t controller, uint32_t value, uint8_t *edit)
 {
-    const row *r = &ROWS[controller];
+    const row *r = &u->rows[controller];
     if (!r->width)
         return NO_CONTROLLER;
     if (value > r->highest)
@@ -220,13 +257,22 @@ static inline uint32_t apply(uint32_t controller, uint32_t value, uint8_t *edit)
     return APPLIED;
 }
 
-uint32_t plain_scale(uint32_t controller, uint32_t value)
+IN_KIND uint32_t scale(const unit *u, uint32_t controller, uint32_t value)
 {
-    if (controller > 127 || !ROWS[controller].factor)
+    if (controller > 127 || !u->rows[controller].factor)
         return REFUSAL + NO_CONTROLLER;
-    if (value > ROWS[controller].highest)
+    if (value > u->rows[controller].highest)
         return REFUSAL + OUT_OF_RANGE;
-    return number_of(&ROWS[controller], value);
+    return number_of(&u->rows[controller], value);
+}
+
+uint32_t plain_scale(uint32_t controller, uint32_t value, uint32_t kind)
+{
+    switch (kind) {
+        case COSTERBLOOM_POD: return scale(&POD, controller, value);
+        case COSTERBLOOM_BASS_POD: return scale(&BASS_POD, controller, value);
+        default: return REFUSAL + NOT_SOUND;
+    }
 }
 
 static inline uint32_t back_m(uint32_t controller, uint32_t stored)
@@ -252,54 +298,58 @@ static inline uint32_t back_row(const row *r, uint32_t stored)
     return (uint32_t)value;
 }
 
-uint32_t plain_back(const uint8_t *memory, size_t memory_length, uint32_t controller)
+IN_KIND uint32_t back(const unit *u, uint32_t controller, const uint8_t *memory, size_t memory_length)
 {
-    if (memory_length < MEMORY)
+    if (memory_length < COSTERBLOOM_MEMORY_OF(u->program))
         return REFUSAL + TOO_SHORT;
-    if (controller > 127 || !ROWS[controller].width)
+    if (controller > 127 || !u->rows[controller].width)
         return REFUSAL + NO_CONTROLLER;
-    const row *r = &ROWS[controller];
-    const uint8_t *edit = memory + EDIT;
+    const row *r = &u->rows[controller];
+    const uint8_t *edit = memory + edit_of(u);
     if (!is_selected(r, edit))
         return REFUSAL + NOT_SELECTED;
     uint32_t stored = load(edit + r->place, r->width);
     return r->factor ? back_row(r, stored) : back_m(controller, stored);
 }
 
+uint32_t plain_back(uint32_t controller, uint32_t kind, const uint8_t *memory, size_t memory_length)
+{
+    switch (kind) {
+        case COSTERBLOOM_POD: return back(&POD, controller, memory, memory_length);
+        case COSTERBLOOM_BASS_POD: return back(&BASS_POD, controller, memory, memory_length);
+        default: return REFUSAL + NOT_SOUND;
+    }
+}
+
 /* ---- finished messages */
 
 enum { REQUEST = 0, DUMP = 1, ONE = 0, EDITED = 1, ALL = 2 };
-
-static const uint8_t HEADER[5] = {0xF0, 0x00, 0x01, 0x0C, 0x01};
-
-/* Lengths without F7, by opcode and type. */
-static const uint16_t LENGTHS[2][3] = {{8, 7, 7}, {9 + 2 * PROGRAM, 8 + 2 * PROGRAM, 8 + 2 * PROGRAMS *PROGRAM}};
 
 static inline uint64_t replied(size_t length)
 {
     return REPLIED | (uint64_t)length << 8;
 }
 
-static uint64_t identify(const settings *s, uint8_t cc, uint8_t *restrict reply)
+static uint64_t identify(const unit *u, const settings *s, uint8_t cc, uint8_t *restrict reply)
 {
-    static const uint8_t IDENTITY[17] = {0xF0, 0x7E, 0, 6, 2, 0, 1, 0x0C, 0, 0, 0, 1, 0, 0, 0, 0, 0xF7};
+    static const uint8_t IDENTITY[17] = {0xF0, 0x7E, 0, 6, 2, 0, 1, 0x0C, 0, 0, 0, 0, 0, 0, 0, 0, 0xF7};
     if (cc != s->channel && cc != 0x7F && !s->omni)
         return OTHER_IDENTITY;
     __builtin_memcpy(reply, IDENTITY, sizeof IDENTITY);
     reply[2] = cc;
-    __builtin_memcpy(reply + 12, s->revision, 4);
+    __builtin_memcpy(reply + 8, u->identity, sizeof u->identity);
+    __builtin_memcpy(reply + 12, s->revision, sizeof s->revision);
     return replied(sizeof IDENTITY);
 }
 
+/* The dump begins as its request does, but for the opcode: of the eight bytes that every request has, the last is the
+ * program, or is written over. */
 static uint64_t answer(
-    uint8_t type, const uint8_t *body, const uint8_t *restrict part, size_t count, uint8_t *restrict reply)
+    const uint8_t *request, size_t head, const uint8_t *restrict part, size_t count, uint8_t *restrict reply)
 {
-    size_t at = sizeof HEADER;
-    __builtin_memcpy(reply, HEADER, sizeof HEADER);
-    reply[at++] = DUMP;
-    reply[at++] = type;
-    if (type == ONE)
-        reply[at++] = body[7];
+    size_t at = head;
+    __builtin_memcpy(reply, request, 8);
+    reply[5] = DUMP;
     reply[at++] = 0;
     split(reply + at, part, count);
     at += 2 * count;
@@ -323,34 +373,50 @@ static inline int is_identity(const uint8_t *body, size_t length)
 }
 
 /* A body: F0 and the bytes after it, without F7. Nothing is assumed of its bytes. */
-static uint64_t sysex(const settings *s, const uint8_t *body, size_t length, uint8_t *memory, uint8_t *reply)
+static uint64_t sysex(
+    const unit *u, const settings *s, const uint8_t *body, size_t length, uint8_t *memory, uint8_t *reply)
 {
     if (is_identity(body, length))
-        return identify(s, body[2], reply);
-    if (length < sizeof HEADER || __builtin_memcmp(body, HEADER, sizeof HEADER) != 0)
+        return identify(u, s, body[2], reply);
+    if (length < sizeof u->header || __builtin_memcmp(body, u->header, sizeof u->header) != 0)
         return NOT_OURS;
     if (length < 7 || body[5] > DUMP || body[6] > ALL)
         return UNKNOWN;
     uint8_t opcode = body[5], type = body[6];
-    if (length != LENGTHS[opcode][type])
+    size_t head = type == ONE ? 8 : 7, count = type == ALL ? edit_of(u) : u->program;
+    if (length != (opcode == REQUEST ? head : head + 1 + 2 * count))
         return WRONG_LENGTH;
     if (type == ONE && body[7] >= PROGRAMS)
         return NO_PROGRAM;
-    uint8_t *part = type == ONE ? memory + body[7] * PROGRAM : type == EDITED ? memory + EDIT : memory;
-    size_t count = type == ALL ? EDIT : PROGRAM;
+    uint8_t *part = memory + (type == ONE ? body[7] * u->program : type == EDITED ? edit_of(u) : 0);
     if (opcode == REQUEST)
-        return answer(type, body, part, count, reply);
-    return store(body + (type == ONE ? 8 : 7), part, count);
+        return answer(body, head, part, count, reply);
+    return store(body + head, part, count);
 }
 
-static inline uint64_t channel_message(
-    const settings *s, uint8_t status, uint8_t first, uint8_t second, uint8_t *memory)
+/* The arguments of a byte call, kept apart: they are put together as settings for a finished SysEx alone. */
+typedef struct {
+    uint8_t byte, channel, omni, revision0, revision1, revision2, revision3;
+    uint8_t *memory, *receive, *reply;
+    size_t memory_length, receive_length, reply_length;
+} call;
+
+/* Programs are counted from 1 here: 0 is manual, 37 the tuner. */
+IN_KIND uint64_t change_program(const unit *u, uint8_t program, uint8_t *memory)
 {
-    if ((status & 0x0F) != s->channel && !s->omni)
+    if (!u->changes || program < 1 || program > PROGRAMS)
+        return OTHER_MESSAGE;
+    __builtin_memcpy(memory + edit_of(u), memory + (program - 1) * u->program, u->program);
+    return STORED;
+}
+
+IN_KIND uint64_t channel_message(const unit *u, const call *c, uint8_t status, uint8_t first, uint8_t second)
+{
+    if ((status & 0x0F) != c->channel && !c->omni)
         return OTHER_CHANNEL;
-    if (status >> 4 != 0xB)
-        return OTHER_KIND;
-    return apply(first, second, memory + EDIT);
+    if (status >> 4 == 0xB)
+        return apply(u, first, second, c->memory + edit_of(u));
+    return status >> 4 == 0xC ? change_program(u, first, c->memory) : OTHER_MESSAGE;
 }
 
 /* ---- from bytes to finished messages */
@@ -360,11 +426,11 @@ static inline int takes_two(uint8_t status)
     return status >= 0x80 && status <= 0xEF && (status & 0xE0) != 0xC0;
 }
 
-static inline int is_sound_inside(const costerbloom_receiver *r)
+IN_KIND int is_sound_inside(const unit *u, const costerbloom_receiver *r)
 {
-    if (r->inside != 1 || (r->running | r->held | r->waiting) || r->stored < 1 || r->stored > LIMIT)
+    if (r->inside != 1 || (r->running | r->held | r->waiting) || r->stored < 1 || r->stored > limit_of(u))
         return 0;
-    return r->over == 0 || (r->over == 1 && r->stored == LIMIT);
+    return r->over == 0 || (r->over == 1 && r->stored == limit_of(u));
 }
 
 static inline int is_sound_outside(const costerbloom_receiver *r)
@@ -392,71 +458,77 @@ static inline void status_byte(costerbloom_receiver *r, uint8_t byte, uint8_t *r
     }
 }
 
-static inline uint64_t take_inside(
-    costerbloom_receiver *r, uint8_t byte, const settings *s, uint8_t *memory, uint8_t *receive, uint8_t *reply)
+IN_KIND uint64_t take_inside(const unit *u, costerbloom_receiver *r, const call *c)
 {
-    if (byte < 0x80) {
-        if (r->stored < LIMIT)
-            receive[r->stored++] = byte;
+    if (c->byte < 0x80) {
+        if (r->stored < limit_of(u))
+            c->receive[r->stored++] = c->byte;
         else
             r->over = 1;
         return TAKEN;
     }
-    if (byte >= 0xF8)
+    if (c->byte >= 0xF8)
         return TAKEN;
-    if (byte != 0xF7) {
-        status_byte(r, byte, receive);
+    if (c->byte != 0xF7) {
+        status_byte(r, c->byte, c->receive);
         return CUT;
     }
     uint8_t over = r->over;
     size_t length = r->stored;
     clear(r, 0);
-    return over ? TOO_LONG : sysex(s, receive, length, memory, reply);
+    if (over)
+        return TOO_LONG;
+    const settings s = {c->channel, c->omni, {c->revision0, c->revision1, c->revision2, c->revision3}};
+    return sysex(u, &s, c->receive, length, c->memory, c->reply);
 }
 
-static inline uint64_t take_outside(
-    costerbloom_receiver *r, uint8_t byte, const settings *s, uint8_t *memory, uint8_t *receive)
+IN_KIND uint64_t take_outside(const unit *u, costerbloom_receiver *r, const call *c)
 {
-    if (byte >= 0x80) {
-        if (byte < 0xF8)
-            status_byte(r, byte, receive);
+    if (c->byte >= 0x80) {
+        if (c->byte < 0xF8)
+            status_byte(r, c->byte, c->receive);
         return TAKEN;
     }
     uint8_t status = r->running;
     if (!status)
         return TAKEN;
     if (!takes_two(status))
-        return channel_message(s, status, byte, 0, memory);
+        return channel_message(u, c, status, c->byte, 0);
     if (!r->held) {
         r->held = 1;
-        r->waiting = byte;
+        r->waiting = c->byte;
         return TAKEN;
     }
     uint8_t first = r->waiting;
     r->held = 0;
     r->waiting = 0;
-    return channel_message(s, status, first, byte, memory);
+    return channel_message(u, c, status, first, c->byte);
 }
 
-uint64_t plain_take(costerbloom_receiver *receiver, uint32_t socket, uint8_t byte, uint8_t channel, uint8_t omni,
-    uint8_t revision0, uint8_t revision1, uint8_t revision2, uint8_t revision3, uint8_t *memory, size_t memory_length,
-    uint8_t *receive, size_t receive_length, uint8_t *reply, size_t reply_length)
+IN_KIND uint64_t take(const unit *u, costerbloom_receiver *r, uint32_t socket, const call *c)
 {
-    const settings s = {channel, omni, {revision0, revision1, revision2, revision3}};
-    if (memory_length < MEMORY || receive_length < LONGEST || reply_length < LONGEST)
+    if (is_short(u, c->memory_length, c->receive_length, c->reply_length))
         return TOO_SHORT;
     if (socket > 1)
         return NO_SOCKET;
-    if (!are_valid(&s))
+    if (!are_valid(c->channel, c->omni, c->revision0 | c->revision1 | c->revision2 | c->revision3))
         return NOT_SOUND;
-    if (receiver->inside) {
-        if (!is_sound_inside(receiver))
-            return NOT_SOUND;
-        return take_inside(receiver, byte, &s, memory, receive, reply);
+    if (r->inside)
+        return is_sound_inside(u, r) ? take_inside(u, r, c) : NOT_SOUND;
+    return is_sound_outside(r) ? take_outside(u, r, c) : NOT_SOUND;
+}
+
+uint64_t plain_take(costerbloom_receiver *receiver, uint32_t socket, uint8_t byte, uint32_t kind, uint8_t channel,
+    uint8_t omni, uint8_t revision0, uint8_t revision1, uint8_t revision2, uint8_t revision3, uint8_t *memory,
+    size_t memory_length, uint8_t *receive, size_t receive_length, uint8_t *reply, size_t reply_length)
+{
+    const call c = {byte, channel, omni, revision0, revision1, revision2, revision3, memory, receive, reply,
+        memory_length, receive_length, reply_length};
+    switch (kind) {
+        case COSTERBLOOM_POD: return take(&POD, receiver, socket, &c);
+        case COSTERBLOOM_BASS_POD: return take(&BASS_POD, receiver, socket, &c);
+        default: return NOT_SOUND;
     }
-    if (!is_sound_outside(receiver))
-        return NOT_SOUND;
-    return take_outside(receiver, byte, &s, memory, receive);
 }
 
 static inline int is_framed(const uint8_t *message, size_t length)
@@ -464,18 +536,21 @@ static inline int is_framed(const uint8_t *message, size_t length)
     return length >= 2 && message[0] == 0xF0 && message[length - 1] == 0xF7 && bits_of(message + 1, length - 2) <= 0x7F;
 }
 
-uint64_t plain_whole(const uint8_t *message, size_t message_length, uint8_t channel, uint8_t omni, uint8_t revision0,
-    uint8_t revision1, uint8_t revision2, uint8_t revision3, uint8_t *memory, size_t memory_length, uint8_t *reply,
-    size_t reply_length)
+uint64_t plain_whole(const uint8_t *message, size_t message_length, uint32_t kind, uint8_t channel, uint8_t omni,
+    uint8_t revision0, uint8_t revision1, uint8_t revision2, uint8_t revision3, uint8_t *memory, size_t memory_length,
+    uint8_t *reply, size_t reply_length)
 {
     const settings s = {channel, omni, {revision0, revision1, revision2, revision3}};
-    if (memory_length < MEMORY || reply_length < LONGEST)
-        return TOO_SHORT;
-    if (!are_valid(&s))
+    if (kind > COSTERBLOOM_BASS_POD)
         return NOT_SOUND;
-    if (message_length > LONGEST)
+    const unit *u = kind == COSTERBLOOM_POD ? &POD : &BASS_POD;
+    if (is_short(u, memory_length, reply_length, reply_length))
+        return TOO_SHORT;
+    if (!are_valid(channel, omni, revision0 | revision1 | revision2 | revision3))
+        return NOT_SOUND;
+    if (message_length > COSTERBLOOM_LONGEST_OF(u->program))
         return TOO_LONG;
     if (!is_framed(message, message_length))
         return NOT_OURS;
-    return sysex(&s, message, message_length - 1, memory, reply);
+    return sysex(u, &s, message, message_length - 1, memory, reply);
 }

@@ -4,13 +4,13 @@
 
 #include "plain.h"
 
-typedef uint64_t take_call(costerbloom_receiver *, uint32_t, uint8_t, uint8_t, uint8_t, uint8_t, uint8_t, uint8_t,
-    uint8_t, uint8_t *, size_t, uint8_t *, size_t, uint8_t *, size_t);
-typedef uint64_t whole_call(const uint8_t *, size_t, uint8_t, uint8_t, uint8_t, uint8_t, uint8_t, uint8_t, uint8_t *,
-    size_t, uint8_t *, size_t);
-typedef uint32_t back_call(const uint8_t *, size_t, uint32_t);
+typedef uint64_t take_call(costerbloom_receiver *, uint32_t, uint8_t, uint32_t, uint8_t, uint8_t, uint8_t, uint8_t,
+    uint8_t, uint8_t, uint8_t *, size_t, uint8_t *, size_t, uint8_t *, size_t);
+typedef uint64_t whole_call(const uint8_t *, size_t, uint32_t, uint8_t, uint8_t, uint8_t, uint8_t, uint8_t, uint8_t,
+    uint8_t *, size_t, uint8_t *, size_t);
+typedef uint32_t back_call(uint32_t, uint32_t, const uint8_t *, size_t);
 
-/* Each buffer begins on a cache line of its own on both sides, so that neither is luckier. */
+/* Of either kind. Each buffer begins on a cache line of its own on both sides, so that neither is luckier. */
 typedef struct {
     _Alignas(64) costerbloom_receiver receiver;
     _Alignas(64) uint8_t memory[COSTERBLOOM_MEMORY];
@@ -45,7 +45,7 @@ static inline int same_box(const box *a, const box *b)
            same(a->receive, b->receive, sizeof a->receive) && same(a->reply, b->reply, sizeof a->reply);
 }
 
-/* Whether both sides scale every value alike, and show the shared fields back alike. */
+/* Whether both sides scale every value alike, and show a POD's shared fields and a Bass POD's bytes back alike. */
 int panel_agrees(void);
 
 /* Calls both sides with the same random calls, refused ones too, and compares all that is left. Returns how many calls

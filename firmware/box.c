@@ -3,7 +3,9 @@
  * loop brings it the bytes and carries its replies away.
  *
  * As on a MIDI wire, one byte goes at a time: a turn takes one byte from each input that is ready, or brings one byte
- * of a reply to an output. Once all is open nothing but poll waits, so neither socket waits for the other. */
+ * of a reply to an output. Once all is open nothing but poll waits for a byte, so neither socket waits for the other.
+ * Once something was stored and no byte can be moved, memory is saved, at most once a second: what a power cut can lose
+ * is what came since the last save. */
 #include <costerbloom.h>
 #include <system.h>
 
@@ -15,7 +17,18 @@ enum { REVISION0 = 0x30, REVISION1 = 0x31, REVISION2 = 0x30, REVISION3 = 0x30 };
 
 enum { DONE = 0, FAILED = 1, MISUSED = 2, FAULT = 3 }; /* exit status */
 enum { SOCKETS = 2 };
-enum { FIRST_FAULT = 30 }; /* numbers 30 to 32 blame the caller: this file */
+enum { STORED = 1, APPLIED = 3, FIRST_FAULT = 30 }; /* numbers; 30 to 32 blame the caller: this file */
+enum { BETWEEN_SAVES = 1000 }; /* milliseconds */
+
+/* What a box can be set as: a word for the kind, and how many bytes of memory it has. */
+static const struct unit {
+    const char *word;
+    uint32_t kind;
+    size_t memory;
+} units[] = {
+    {"pod", COSTERBLOOM_POD, COSTERBLOOM_POD_MEMORY},
+    {"bass", COSTERBLOOM_BASS_POD, COSTERBLOOM_BASS_POD_MEMORY},
+};
 
 struct wire {
     const char *name;
@@ -30,10 +43,15 @@ struct socket {
     size_t reply_length, sent; /* sent < reply_length: a reply is on its way */
 };
 
-/* All zero at the start: fresh memory, fresh receivers. */
+/* All zero at the start: fresh memory, fresh receivers; as long as either kind needs them. */
 static uint8_t memory[COSTERBLOOM_MEMORY];
 static struct socket sockets[SOCKETS];
+static const struct unit *unit;
 static int stop_pipe[2]; /* a signal to stop is one more thing that poll can wait for */
+
+/* What the programs file lacks: nothing, itself (there was none), or what a byte has stored. */
+static enum { NOTHING, ITSELF, A_STORE } lacking;
+static long next_save; /* not before this time */
 
 static void ask_to_stop(int number)
 {
@@ -75,9 +93,8 @@ static _Bool open_sockets(char **inputs, char **outputs)
  * spoiled. What the programs file holds is then the safer copy, so nothing is saved over it. */
 static _Noreturn void give_up(unsigned number)
 {
-    const char digits[] = {(char)('0' + number / 10), (char)('0' + number % 10), '\0'};
     say("box: the library answered ");
-    say(digits);
+    say_number(number);
     say(", a fault of the firmware; the programs file stays as it was\n");
     _exit(FAULT);
 }
@@ -85,11 +102,14 @@ static _Noreturn void give_up(unsigned number)
 static void take(uint32_t which, uint8_t byte)
 {
     struct socket *socket = &sockets[which];
-    uint64_t answer = costerbloom_take(&socket->receiver, which, byte, CHANNEL, OMNI, REVISION0, REVISION1, REVISION2,
-        REVISION3, memory, sizeof memory, socket->receive, sizeof socket->receive, socket->reply, sizeof socket->reply);
+    uint64_t answer = costerbloom_take(&socket->receiver, which, byte, unit->kind, CHANNEL, OMNI, REVISION0, REVISION1,
+        REVISION2, REVISION3, memory, sizeof memory, socket->receive, sizeof socket->receive, socket->reply,
+        sizeof socket->reply);
     unsigned number = answer & 0xFF;
     if (number >= FIRST_FAULT)
         give_up(number);
+    if (number == STORED || number == APPLIED)
+        lacking = A_STORE;
     socket->reply_length = answer >> 8 & 0xFFFF; /* 0 unless a reply was written */
     socket->sent = 0;
 }
@@ -134,16 +154,45 @@ static struct pollfd awaited(const struct socket *socket)
     return (struct pollfd){socket->input.descriptor, POLLIN, 0};
 }
 
+static long now(void)
+{
+    struct timespec time;
+    clock_gettime(CLOCK_MONOTONIC, &time);
+    return time.seconds * 1000 + time.nanoseconds / 1000000;
+}
+
+/* How long poll waits for a byte: until what is stored may be saved, or for ever (-1). */
+static int patience(void)
+{
+    if (lacking != A_STORE)
+        return -1;
+    long left = next_save - now();
+    return left > 0 ? (int)left : 0;
+}
+
+/* A save that fails has said so. The programs are still here, and it is tried again a second later. */
+static _Bool save(const char *programs)
+{
+    _Bool saved = programs_save(programs, memory, unit->memory);
+    if (saved)
+        lacking = NOTHING;
+    next_save = now() + BETWEEN_SAVES;
+    return saved;
+}
+
 /* Runs until both inputs have ended or a signal came. Gives 0 where a byte could not be moved. */
-static _Bool run(void)
+static _Bool run(const char *programs)
 {
     _Bool well = 1;
     for (;;) {
         struct pollfd waits[SOCKETS + 1] = {awaited(&sockets[0]), awaited(&sockets[1]), {stop_pipe[0], POLLIN, 0}};
         if (waits[0].fd < 0 && waits[1].fd < 0)
             return well;
-        if (poll(waits, SOCKETS + 1, -1) < 0 && errno != EINTR)
+        int ready = poll(waits, SOCKETS + 1, patience());
+        if (ready < 0 && errno != EINTR)
             return failed("wait for", "the sockets");
+        if (ready == 0) /* no byte can be moved, and a save is due */
+            save(programs);
         if (waits[SOCKETS].revents != 0)
             return well;
         for (uint32_t which = 0; which < SOCKETS; which++)
@@ -154,19 +203,40 @@ static _Bool run(void)
     }
 }
 
+/* Sets the box as the kind of this word. */
+static _Bool set_as(const char *word)
+{
+    for (size_t place = 0; place < sizeof units / sizeof *units; place++)
+        if (strcmp(word, units[place].word) == 0)
+            unit = &units[place];
+    return unit != NULL;
+}
+
+static _Bool load(const char *programs)
+{
+    _Bool found;
+    if (!programs_load(programs, memory, unit->memory, &found))
+        return 0;
+    lacking = found ? NOTHING : ITSELF;
+    return 1;
+}
+
 int main(int count, char **words)
 {
-    if (count != 6) {
-        say("usage: box PROGRAMS INPUT0 INPUT1 OUTPUT0 OUTPUT1\n"
-            "Bytes that come on sockets 0 and 1 are read from INPUT0 and INPUT1, replies are written to OUTPUT0 and\n"
-            "OUTPUT1. The file PROGRAMS keeps the programs and the edit buffer, 2664 bytes, from one run to the next:\n"
-            "it is read at the start and replaced when both inputs have ended, or at SIGINT or SIGTERM.\n");
+    if (count != 7 || !set_as(words[1])) {
+        say("usage: box KIND PROGRAMS INPUT0 INPUT1 OUTPUT0 OUTPUT1\n"
+            "KIND is the word pod or bass. Bytes that come on sockets 0 and 1 are read from INPUT0 and INPUT1,\n"
+            "replies are written to OUTPUT0 and OUTPUT1. The file PROGRAMS keeps the programs and the edit buffer,\n"
+            "2664 bytes of a pod, 2960 of a bass, from one run to the next: it is read at the start, and replaced\n"
+            "where something was stored: as soon as no byte waits, at most once a second, and when both inputs have\n"
+            "ended, or at SIGINT or SIGTERM.\n");
         return MISUSED;
     }
-    const char *programs = words[1];
-    if (!programs_load(programs, memory) || !open_sockets(words + 2, words + 4) || !catch_signals() ||
-        !programs_prepare(programs))
+    const char *programs = words[2];
+    if (!load(programs) || !open_sockets(words + 3, words + 5) || !catch_signals() || !programs_prepare(programs))
         return FAILED;
-    _Bool well = run();
-    return programs_save(programs, memory) && well ? DONE : FAILED;
+    _Bool well = run(programs);
+    _Bool saved = lacking == NOTHING || save(programs);
+    programs_leave();
+    return saved && well ? DONE : FAILED;
 }

@@ -20,15 +20,19 @@ static const char *const names[FIELD_BYTES] = {
 /* What the library's record holds, byte by byte, after a status byte and a data byte some times over. */
 static const struct {
     const char *fed;
+    uint32_t kind;
     uint8_t status, data;
     int times;
     uint8_t record[FIELD_BYTES];
 } cases[] = {
-    {"FE", 0xFE, 0, 0, {0, 0, 0, 0, 0, 0, 0}},
-    {"F0", 0xF0, 0, 0, {1, 0, 1, 0, 0, 0, 0}},
-    {"B0 0D", 0xB0, 0x0D, 1, {0, 0, 0, 0, 0xB0, 1, 0x0D}},
-    {"F0 and 5191 bytes", 0xF0, 0, 5191, {0x48, 0x14, 1, 0, 0, 0, 0}},
-    {"F0 and 5192 bytes", 0xF0, 0, 5192, {0x48, 0x14, 1, 1, 0, 0, 0}},
+    {"FE", COSTERBLOOM_POD, 0xFE, 0, 0, {0, 0, 0, 0, 0, 0, 0}},
+    {"F0", COSTERBLOOM_POD, 0xF0, 0, 0, {1, 0, 1, 0, 0, 0, 0}},
+    {"B0 0D", COSTERBLOOM_POD, 0xB0, 0x0D, 1, {0, 0, 0, 0, 0xB0, 1, 0x0D}},
+    {"F0 and 5191 bytes", COSTERBLOOM_POD, 0xF0, 0, 5191, {0x48, 0x14, 1, 0, 0, 0, 0}},
+    {"F0 and 5192 bytes", COSTERBLOOM_POD, 0xF0, 0, 5192, {0x48, 0x14, 1, 1, 0, 0, 0}},
+    {"B0 0D on a Bass POD", COSTERBLOOM_BASS_POD, 0xB0, 0x0D, 1, {0, 0, 0, 0, 0xB0, 1, 0x0D}},
+    {"F0 and 5767 bytes on a Bass POD", COSTERBLOOM_BASS_POD, 0xF0, 0, 5767, {0x88, 0x16, 1, 0, 0, 0, 0}},
+    {"F0 and 5768 bytes on a Bass POD", COSTERBLOOM_BASS_POD, 0xF0, 0, 5768, {0x88, 0x16, 1, 1, 0, 0, 0}},
 };
 
 /* The bytes beside the record show whether the library takes it for a longer one. */
@@ -40,10 +44,10 @@ static struct {
 
 static uint8_t memory[COSTERBLOOM_MEMORY], receive[COSTERBLOOM_LONGEST], reply[COSTERBLOOM_LONGEST];
 
-static void take(uint8_t byte)
+static void take(uint8_t byte, uint32_t kind)
 {
-    costerbloom_take(
-        &lent.receiver, 0, byte, 0, 0, 0, 0, 0, 0, memory, sizeof memory, receive, sizeof receive, reply, sizeof reply);
+    costerbloom_take(&lent.receiver, 0, byte, kind, 0, 0, 0, 0, 0, 0, memory, sizeof memory, receive, sizeof receive,
+        reply, sizeof reply);
 }
 
 static _Bool differs(const char *fed, const char *what)
@@ -76,9 +80,9 @@ int main(void)
         lent.receiver = (costerbloom_receiver){0};
         for (int place = 0; place < BESIDE; place++)
             lent.before[place] = lent.after[place] = UNTOUCHED;
-        take(cases[row].status);
+        take(cases[row].status, cases[row].kind);
         for (int time = 0; time < cases[row].times; time++)
-            take(cases[row].data);
+            take(cases[row].data, cases[row].kind);
         wrong |= holds_another(cases[row].fed, cases[row].record);
     }
     return wrong;

@@ -3,29 +3,44 @@
 #include "report.h"
 #include <system.h>
 
-static char new_name[4096]; /* the system's own limit, with the closing zero */
-static int new_file;
+enum { NOT_OPEN = -1 };
 
-static _Bool read_whole(int file, const char *name, uint8_t *memory)
+static char new_name[4096]; /* the system's own limit, with the closing zero */
+static int new_file = NOT_OPEN;
+
+/* A file of another length is not ours, or is the other kind's: it is refused here, before anything of it could be
+ * written over. */
+static _Bool has_another_length(const char *name, size_t found, size_t length)
 {
-    /* A file of another length is not ours: it is refused here, before anything of it could be written over. */
-    if (lseek(file, 0, SEEK_END) != COSTERBLOOM_MEMORY) {
-        say("box: ");
-        say(name);
-        say(" is not a programs file: it has not 2664 bytes\n");
-        return 0;
-    }
-    if (pread(file, memory, COSTERBLOOM_MEMORY, 0) != COSTERBLOOM_MEMORY)
+    say("box: ");
+    say(name);
+    say(" is not a programs file of this kind: it has ");
+    say_number(found);
+    say(" bytes and not ");
+    say_number(length);
+    say("\n");
+    return 0;
+}
+
+static _Bool read_whole(int file, const char *name, uint8_t *memory, size_t length)
+{
+    long found = lseek(file, 0, SEEK_END);
+    if (found < 0)
+        return failed("read", name);
+    if ((size_t)found != length)
+        return has_another_length(name, (size_t)found, length);
+    if (pread(file, memory, length, 0) != found)
         return failed("read", name);
     return 1;
 }
 
-_Bool programs_load(const char *name, uint8_t memory[COSTERBLOOM_MEMORY])
+_Bool programs_load(const char *name, uint8_t *memory, size_t length, _Bool *found)
 {
     int file = open(name, O_RDONLY);
+    *found = file >= 0;
     if (file < 0)
         return errno == ENOENT || failed("read", name);
-    _Bool whole = read_whole(file, name, memory);
+    _Bool whole = read_whole(file, name, memory, length);
     close(file);
     return whole;
 }
@@ -55,10 +70,10 @@ _Bool programs_prepare(const char *name)
     return new_file >= 0 || failed("write", new_name);
 }
 
-static _Bool write_whole(const uint8_t *memory)
+static _Bool write_whole(const uint8_t *memory, size_t length)
 {
-    for (size_t written = 0; written < COSTERBLOOM_MEMORY;) {
-        ptrdiff_t count = write(new_file, memory + written, COSTERBLOOM_MEMORY - written);
+    for (size_t written = 0; written < length;) {
+        ptrdiff_t count = write(new_file, memory + written, length - written);
         if (count < 0)
             return 0;
         written += (size_t)count;
@@ -67,11 +82,27 @@ static _Bool write_whole(const uint8_t *memory)
 }
 
 /* The old file stands until the new one is whole and on the disk: a failure half way loses no program. */
-_Bool programs_save(const char *name, const uint8_t memory[COSTERBLOOM_MEMORY])
+static _Bool replace(const char *name, const uint8_t *memory, size_t length)
 {
-    if (!write_whole(memory) || fsync(new_file) != 0)
+    if (!write_whole(memory, length) || fsync(new_file) != 0)
         return failed("write", new_name);
     if (rename(new_name, name) != 0)
         return failed("replace", name);
     return 1;
+}
+
+_Bool programs_save(const char *name, const uint8_t *memory, size_t length)
+{
+    if (new_file == NOT_OPEN && !programs_prepare(name))
+        return 0;
+    _Bool replaced = replace(name, memory, length);
+    close(new_file);
+    new_file = NOT_OPEN; /* the next save begins an empty one */
+    return replaced;
+}
+
+void programs_leave(void)
+{
+    if (new_file != NOT_OPEN)
+        unlink(new_name);
 }

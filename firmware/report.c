@@ -10,6 +10,18 @@ void say(const char *text)
     write(STANDARD_ERROR, text, length);
 }
 
+void say_number(unsigned long number)
+{
+    char text[21]; /* the longest has 20 digits */
+    char *digit = text + sizeof text - 1;
+    *digit = '\0';
+    do {
+        *--digit = (char)('0' + number % 10);
+        number /= 10;
+    } while (number != 0);
+    say(digit);
+}
+
 _Bool failed(const char *verb, const char *name)
 {
     const char *reason = strerrordesc_np(errno);

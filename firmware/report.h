@@ -4,6 +4,9 @@
 
 void say(const char *text);
 
+/* A number, decimal. */
+void say_number(unsigned long number);
+
 /* Says that the box cannot do this to the named file, and why (errno). Always 0, for a caller to give back. */
 _Bool failed(const char *verb, const char *name);
 

@@ -1,12 +1,20 @@
 /* Costerbloom: the proved heart of a small MIDI box, for firmware.
  *
- * The caller owns every buffer; no call keeps a pointer, allocates, or waits. Lent at least: memory 2,664 bytes (36
- * programs of 72 bytes, then the edit buffer; fresh memory is all zero), a receive buffer of 5,193 bytes for each
- * socket, and a reply buffer of 5,193. More may be lent; the rest is not touched. What a call is lent must not
- * overlap, no other call may use it meanwhile, and no pointer may be null, not even with a length of 0. A call takes
- * less than 2 KB of stack.
+ * A box is set as one kind of unit before use, POD or Bass POD, and every call brings that kind. Programs of the two
+ * stand at different places of memory: a box that is set as the other kind begins with fresh memory and receivers.
  *
- * Settings: channel 0 to 15, omni 0 or 1, four revision bytes of at most 0x7F.
+ * The caller owns every buffer; no call keeps a pointer, allocates, or waits. Lent at least:
+ *
+ *                                                   POD   Bass POD   either
+ *   memory: 36 programs, then the edit buffer     2,664      2,960    2,960
+ *   a receive buffer for each socket              5,193      5,769    5,769
+ *   a reply buffer                                5,193      5,769    5,769
+ *
+ * A program has 72 bytes on a POD and 80 on a Bass POD, and so has the edit buffer. Fresh memory is all zero. More may
+ * be lent; the rest is not touched. What a call is lent must not overlap, no other call may use it meanwhile, and no
+ * pointer may be null, not even with a length of 0. A call takes less than 2 KB of stack.
+ *
+ * Settings, the same for both kinds: channel 0 to 15, omni 0 or 1, four revision bytes of at most 0x7F.
  */
 #ifndef COSTERBLOOM_H
 #define COSTERBLOOM_H
@@ -18,10 +26,26 @@
 extern "C" {
 #endif
 
+/* The kinds. Any other number is refused with 32, before all else is tested. */
+enum { COSTERBLOOM_POD = 0, COSTERBLOOM_BASS_POD = 1 };
+
+/* The lengths to lend follow from a program's size: 36 programs and the edit buffer; the dump of all programs, two half
+ * bytes for each of their bytes and 9 bytes around them. */
+#define COSTERBLOOM_MEMORY_OF(program) (37 * (program))
+#define COSTERBLOOM_LONGEST_OF(program) (2 * 36 * (program) + 9)
+
 enum {
-    COSTERBLOOM_PROGRAM = 72,
-    COSTERBLOOM_MEMORY = 37 * COSTERBLOOM_PROGRAM,
-    COSTERBLOOM_LONGEST = 2 * 36 * COSTERBLOOM_PROGRAM + 9
+    COSTERBLOOM_POD_PROGRAM = 72,
+    COSTERBLOOM_POD_MEMORY = COSTERBLOOM_MEMORY_OF(COSTERBLOOM_POD_PROGRAM),
+    COSTERBLOOM_POD_LONGEST = COSTERBLOOM_LONGEST_OF(COSTERBLOOM_POD_PROGRAM),
+
+    COSTERBLOOM_BASS_POD_PROGRAM = 80,
+    COSTERBLOOM_BASS_POD_MEMORY = COSTERBLOOM_MEMORY_OF(COSTERBLOOM_BASS_POD_PROGRAM),
+    COSTERBLOOM_BASS_POD_LONGEST = COSTERBLOOM_LONGEST_OF(COSTERBLOOM_BASS_POD_PROGRAM),
+
+    /* the largest, for a box that may be set as either kind */
+    COSTERBLOOM_MEMORY = COSTERBLOOM_BASS_POD_MEMORY,
+    COSTERBLOOM_LONGEST = COSTERBLOOM_BASS_POD_LONGEST
 };
 
 /* What a socket keeps between its bytes: one for each socket, lent to each of its calls. All zero is fresh. Its last
@@ -34,39 +58,43 @@ typedef struct {
 /* One byte that came on socket 0 or 1. Gives a number in bits 0 to 7, the reply length in bits 8 to 23:
  *
  *    0  byte taken                                16  a data byte above 0x0F
- *    1  dump stored                               17  controller not in the table
- *    2  reply written                             18  controller value out of range
- *    3  controller applied                        19  its effect is not selected
- *    4  SysEx cut                                 20  channel message on another channel, not omni
- *   10  SysEx too long                            21  channel message other than a controller
- *   11  not ours                                  22  identity request for another channel, not omni
- *   12  opcode or type unknown or missing         30  a lent buffer too short
- *   13  wrong length                              31  socket not 0 or 1
- *   14  program above 0x23                        32  receiver not sound, or a setting out of range
- *   15  version not 0
+ *    1  dump stored; on a Bass POD also a         17  controller not in the kind's table
+ *       program change of 1 to 36: program 0      18  controller value out of range
+ *       to 35 is now in the edit buffer           19  its effect is not selected (never on a Bass POD)
+ *    2  reply written                             20  channel message on another channel, not omni
+ *    3  controller applied                        21  channel message other than a controller, or, on a
+ *    4  SysEx cut                                     Bass POD, than a program change of 1 to 36
+ *   10  SysEx too long                            22  identity request for another channel, not omni
+ *   11  not ours, or the other kind's             30  a lent buffer too short
+ *   12  opcode or type unknown or missing         31  socket not 0 or 1
+ *   13  wrong length                              32  a kind that is none (tested before 30); receiver
+ *   14  program above 0x23                            not sound, or a setting out of range (tested
+ *   15  version not 0                                 after 31)
  *
- * After 2, send the first `reply length` bytes of the reply buffer; after any other number the length is 0. From 10 on
- * no byte of memory or of the reply buffer has changed; from 30 on nothing at all has, the receiver neither. */
-uint64_t costerbloom_take(costerbloom_receiver *receiver, uint32_t socket, uint8_t byte,
+ * 10, 13 and 30 go by the kind's own lengths, and so does 32: a sound receiver has at most 5,192 bytes stored on a POD,
+ * 5,768 on a Bass POD. After 2, send the first `reply length` bytes of the reply buffer; after any other number the
+ * length is 0. From 10 on no byte of memory or of the reply buffer has changed; from 30 on nothing at all has, the
+ * receiver neither. */
+uint64_t costerbloom_take(costerbloom_receiver *receiver, uint32_t socket, uint8_t byte, uint32_t kind,
     uint8_t channel, uint8_t omni, uint8_t revision0, uint8_t revision1, uint8_t revision2, uint8_t revision3,
     uint8_t *memory, size_t memory_length, uint8_t *receive, size_t receive_length,
     uint8_t *reply, size_t reply_length);
 
 /* A whole message from the panel, F0 to F7, with no socket and no receiver. Gives the same numbers at the same places:
  * 1, 2, 10 to 16, 22, 30 or 32. */
-uint64_t costerbloom_whole(const uint8_t *message, size_t message_length,
+uint64_t costerbloom_whole(const uint8_t *message, size_t message_length, uint32_t kind,
     uint8_t channel, uint8_t omni, uint8_t revision0, uint8_t revision1, uint8_t revision2, uint8_t revision3,
     uint8_t *memory, size_t memory_length, uint8_t *reply, size_t reply_length);
 
-/* The number that a controller stores for a value, whatever memory holds: the formula's, raised for 51 to at least 200,
- * for 58 to at least 150 and for 54 to at least 1. Below 65536, or 65536 + the refusal, 17 or 18 as above. Controllers
- * 30 and 62 need a stored number and are 17 here. */
-uint32_t costerbloom_scale(uint32_t controller, uint32_t value);
+/* The number that a controller of the kind stores for a value, whatever memory holds: the formula's, raised on a POD
+ * for 51 to at least 200, for 58 to at least 150 and for 54 to at least 1. Below 65536, or 65536 + the refusal: 32 for
+ * a kind that is none, then 17 or 18 as above. A POD's controllers 30 and 62 need a stored number and are 17 here. */
+uint32_t costerbloom_scale(uint32_t controller, uint32_t value, uint32_t kind);
 
-/* The smallest value of a controller that gives what its bytes of the edit buffer hold: the value, at most 127, or
- * 65536 + the refusal, 30, 17 or 19 as above, or 40 where no value gives it: a dump can bring any number, one below a
- * least number too. `memory` is all of it, as for the others. */
-uint32_t costerbloom_back(const uint8_t *memory, size_t memory_length, uint32_t controller);
+/* The smallest value of a controller of the kind that gives what its bytes of the edit buffer hold: the value, at most
+ * 127, or 65536 + the refusal: 32 for a kind that is none, then 30, 17 or 19 as above, or 40 where no value gives it: a
+ * dump can bring any number, one below a least number too. `memory` is all of it, as for the others. */
+uint32_t costerbloom_back(uint32_t controller, uint32_t kind, const uint8_t *memory, size_t memory_length);
 
 #ifdef __cplusplus
 }

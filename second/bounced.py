@@ -4,34 +4,40 @@ from functools import reduce
 from itertools import combinations
 from random import Random
 
-from box import (ALL, DUMP, EDIT, END_BYTE, HEADER, LONGEST, PROGRAM,
-                 PROGRAMS, REQUEST)
-from messages import (ALL_HALVES, HALVES, PAD, changed, dump, identity,
-                      inserted, noise, request, resized)
+from box import END_BYTE
+from kinds import ALL, DUMP, EDIT, KINDS, PROGRAM, PROGRAMS, REQUEST, others
+from messages import (PAD, changed, dump, forms, identity, inserted, noise,
+                      request, resized)
 
 SEED = 2
 CHANCES = 250  # random messages, some of them alike
-
-ONE = dump(PROGRAM, noise(1, HALVES), 0x11)
-EDITED = dump(EDIT, noise(2, HALVES))
-EVERY = dump(ALL, noise(3, ALL_HALVES))
-ASK_ONE = request(PROGRAM, 0x11)
-ASK_EDIT = request(EDIT)
-ASK_EVERY = request(ALL)
 ASK_WHO = identity(0x7F)
-REQUESTS = (ASK_ONE, ASK_EDIT, ASK_EVERY)
-DUMPS = (ONE, EDITED, EVERY)
-RIGHT = (ASK_WHO, *REQUESTS, *DUMPS)
-SOME = (ASK_WHO, ASK_ONE, ONE, EVERY)
 
 
-def accepted():
+class Right:
+    """The right messages for a box of a kind, a part of memory each."""
+
+    def __init__(self, kind):
+        self.kind = kind
+        self.one = dump(kind, PROGRAM, noise(1, kind.halves), 0x11)
+        self.edited = dump(kind, EDIT, noise(2, kind.halves))
+        self.every = dump(kind, ALL, noise(3, kind.all_halves))
+        self.ask_one = request(kind, PROGRAM, 0x11)
+        self.ask_edit = request(kind, EDIT)
+        self.requests = (self.ask_one, self.ask_edit, request(kind, ALL))
+        self.dumps = (self.one, self.edited, self.every)
+        self.all = (ASK_WHO, *self.requests, *self.dumps)
+        self.some = (ASK_WHO, self.ask_one, self.one, self.every)
+
+
+def accepted(right):
     """Yield a message for every line of an accepted one."""
+    kind = right.kind
     yield from map(identity, (0, 0x7F))
     for program in range(PROGRAMS):
-        yield request(PROGRAM, program)
-        yield dump(PROGRAM, noise(program, HALVES), program)
-    yield from RIGHT
+        yield request(kind, PROGRAM, program)
+        yield dump(kind, PROGRAM, noise(program, kind.halves), program)
+    yield from right.all
 
 
 # Ways to bounce, check by check
@@ -42,59 +48,62 @@ def padded(message, length):
     return message[:-1] + PAD * (length - len(message)) + END_BYTE
 
 
-def too_long():
-    """Yield messages around 5,193 bytes, and far above."""
-    for length in (LONGEST, LONGEST + 1):
+def too_long(right):
+    """Yield messages around the longest of each kind, and far above."""
+    borders = [kind.longest + more for kind in KINDS for more in (-1, 0, 1)]
+    for length in borders:
         yield bytes(length)
-    for length in (LONGEST - 1, LONGEST, LONGEST + 1, 65535, 65536, 65537,
-                   200000):
-        yield padded(ASK_ONE, length)
-    for message in SOME:
+    for length in (*borders, 65535, 65536, 65537, 200000):
+        yield padded(right.ask_one, length)
+    for message in right.some:
         # as many bytes more as a count of 16 bits does not see
         yield message + bytes(65536)
     # what one would rather call another number
-    yield EVERY + b'\n'
-    yield EVERY + EVERY
-    yield ONE * PROGRAMS
-    yield padded(identity(1), LONGEST + 1)
-    yield inserted(EVERY, 100, b'\xF8')
+    yield right.every + b'\n'
+    yield right.every + right.every
+    yield right.one * PROGRAMS
+    yield padded(identity(1), right.kind.longest + 1)
+    yield inserted(right.every, 100, b'\xF8')
 
 
-def no_frames():
+def no_frames(right):
     """Yield messages without the frame of a SysEx."""
     yield from (b'', b'\xF0', b'\xF7', b'\xF0\xF7', b'\xF0\xF0', b'\xF7\xF7',
                 b'\x00', b'\n', b'F0 00 01 0C 01 00 01 F7\n')
-    for message in SOME:
+    for message in right.some:
         yield message[1:]
         yield message[:-1]
         yield b'\x00' + message
         yield changed(message, 0, 0)
         yield changed(message, len(message) - 1, 0x77)
-    for message in (ASK_WHO, ASK_ONE, ONE):
+    for message in (ASK_WHO, right.ask_one, right.one):
         yield message + b'\n'
         yield message + b'\r\n'
-    yield ASK_ONE + ASK_ONE
-    yield EDITED + ONE
+    yield right.ask_one + right.ask_one
+    yield right.edited + right.one
     # a byte above 0x7F between; F8 too, though a socket would skip it
     for byte in (0x80, 0xF0, 0xF7, 0xF8):
-        yield changed(ONE, len(ONE) - 2, byte)
+        yield changed(right.one, len(right.one) - 2, byte)
     for place in (5, 6, 7, 80):
-        yield changed(EDITED, place, 0x80)
+        yield changed(right.edited, place, 0x80)
     for place in (1, 5, 80):
-        yield inserted(ONE, place, b'\xF8')
+        yield inserted(right.one, place, b'\xF8')
 
 
-def others():
+def foreign(right):
     """Yield messages of another unit, and near identity requests."""
-    for place, byte in enumerate(HEADER):
-        yield changed(ONE, place, byte ^ 1)
-    for length in range(2, len(HEADER)):
-        yield HEADER[:length] + END_BYTE
-    # a Bass POD: "device byte 02, 80 data bytes a program (160 half bytes)"
-    bass = changed(HEADER, 4, 2)
-    yield bass + ONE[len(HEADER):]
-    yield bass + ASK_EDIT[len(HEADER):]
-    yield bass + bytes((DUMP, PROGRAM, 0, 0)) + noise(4, 160) + END_BYTE
+    header = right.kind.header
+    for place, byte in enumerate(header):
+        yield changed(right.one, place, byte ^ 1)
+    for length in range(2, len(header)):
+        yield header[:length] + END_BYTE
+    for other in others(right.kind):
+        yield from forms(other, 4)
+        yield changed(right.one, 4, other.device)
+        yield changed(right.ask_edit, 4, other.device)
+        # our header, and the other unit's length
+        for message in forms(other, 4):
+            yield changed(message, 4, right.kind.device)
     # "Any other 7E message is 11."
     for asked in (0, 1):
         yield resized(identity(asked), 5)
@@ -102,50 +111,50 @@ def others():
     for place, byte in ((1, 0x7F), (3, 5), (3, 7), (4, 0), (4, 2)):
         yield changed(ASK_WHO, place, byte)
     yield ASK_WHO[:2] + ASK_WHO[3:]
-    yield changed(ONE, 1, 0x7E)
-    yield padded(ASK_WHO, LONGEST)
+    yield changed(right.one, 1, 0x7E)
+    yield padded(ASK_WHO, right.kind.longest)
 
 
-def identities():
+def identities(_):
     """Yield identity requests for another channel."""
     yield from map(identity, (1, 0x0F, 0x10, 0x7E))
     # "cc at most 0x7F", else 11
     yield identity(0x80)
 
 
-def no_kinds():
+def no_forms(right):
     """Yield messages whose opcode or type is missing or unknown."""
-    for front in (HEADER, HEADER + b'\x00', HEADER + b'\x01'):
+    for more in (b'', b'\x00', b'\x01'):
+        front = right.kind.header + more
         yield front
         yield front + END_BYTE
-    for message in (ASK_EDIT, ONE):
+    for message in (right.ask_edit, right.one):
         for place, byte in ((5, 2), (5, 0x7F), (6, 3), (6, 0x7F)):
             yield changed(message, place, byte)
 
 
-def wrong_lengths():
+def wrong_lengths(right):
     """Yield messages of every form that are too short or too long."""
     # the shortest: header, opcode and type; two of them are right
-    for opcode in (REQUEST, DUMP):
-        for kind in (PROGRAM, EDIT, ALL):
-            yield HEADER + bytes((opcode, kind)) + END_BYTE
-    for message in (*REQUESTS, *DUMPS):
+    for form in right.kind.lengths:
+        yield right.kind.header + bytes(form) + END_BYTE
+    for message in (*right.requests, *right.dumps):
         yield padded(message, len(message) + 1)
     # as many bytes more as a count of 8 bits does not see
-    for message in (ASK_ONE, ONE):
+    for message in (right.ask_one, right.one):
         yield padded(message, len(message) + 256)
-    for message in DUMPS:
+    for message in right.dumps:
         # one byte short, without its F7 and with it
         yield message[:-2]
         yield resized(message, len(message) - 1)
         yield resized(message, 9)
     # Req 06: "142 half bytes a program"
-    for message, length in zip(DUMPS, (152, 151, 5121)):
+    for message, length in zip(right.dumps, (152, 151, 5121)):
         yield resized(message, length)
     # at the length of another form
-    yield resized(ONE, 8)
-    yield resized(EDITED, 8)
-    yield padded(ONE, LONGEST)
+    yield resized(right.one, 8)
+    yield resized(right.edited, 8)
+    yield padded(right.one, right.kind.longest)
 
 
 def places(message):
@@ -153,12 +162,12 @@ def places(message):
     return (8, 9) if message[6] == PROGRAM else (7, 8)
 
 
-def wrong_fields():
+def wrong_fields(right):
     """Yield messages with one field that is out of its range."""
-    for message in (ASK_ONE, ONE):
+    for message in (right.ask_one, right.one):
         for program in (0x24, 0x7F):
             yield changed(message, 7, program)
-    for message in DUMPS:
+    for message in right.dumps:
         version, first = places(message)
         last = len(message) - 2
         for byte in (1, 0x7F):
@@ -177,12 +186,13 @@ def wrong_length(message):
     return resized(message, len(message) + step)
 
 
-def faults_of(message):
+def faults_of(kind, message):
     """Return the ways to spoil a message, in the order of the checks."""
-    faults = [lambda whole: padded(whole, LONGEST + 1),  # 10
-              lambda whole: changed(whole, 4, 2),        # 11
-              lambda whole: changed(whole, 5, 2),        # 12
-              wrong_length]                              # 13
+    other = others(kind)[0].device
+    faults = [lambda whole: padded(whole, kind.longest + 1),  # 10
+              lambda whole: changed(whole, 4, other),         # 11
+              lambda whole: changed(whole, 5, 2),             # 12
+              wrong_length]                                   # 13
     if message[6] == PROGRAM:
         faults.append(lambda whole: changed(whole, 7, 0x24))      # 14
     if message[5] == DUMP:
@@ -192,13 +202,13 @@ def faults_of(message):
     return faults
 
 
-def spoilt():
+def spoilt(right):
     """Yield messages with two faults, and with all from one of them on."""
-    for message in (ASK_ONE, ONE, EDITED):
-        for two in combinations(faults_of(message), 2):
+    for message in (right.ask_one, right.one, right.edited):
+        for two in combinations(faults_of(right.kind, message), 2):
             yield reduce(spoil, two, message)
-    for message in (ONE, EVERY):
-        faults = faults_of(message)
+    for message in (right.one, right.every):
+        faults = faults_of(right.kind, message)
         for at in range(len(faults) - 1):
             yield reduce(spoil, faults[at:], message)
 
@@ -228,19 +238,20 @@ def damage(chance, message):
         message[:-more]))
 
 
-def at_random():
+def at_random(right):
     """Yield right messages of every form with one to three changes."""
     chance = Random(SEED)
     for count in range(CHANCES):
-        message = RIGHT[count % len(RIGHT)]
+        message = right.all[count % len(right.all)]
         for _ in range(chance.choice((1, 1, 2, 3))):
             message = damage(chance, message)
         yield message
 
 
-def all_messages():
-    """Return all messages, each of them once."""
-    parts = (accepted, too_long, no_frames, others, identities, no_kinds,
+def all_messages(kind):
+    """Return all messages for a box of a kind, each of them once."""
+    right = Right(kind)
+    parts = (accepted, too_long, no_frames, foreign, identities, no_forms,
              wrong_lengths, wrong_fields, spoilt, at_random)
     return tuple(dict.fromkeys(message for part in parts
-                               for message in part()))
+                               for message in part(right)))

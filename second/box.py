@@ -1,18 +1,14 @@
-"""The whole box of document 01 with Req 01, from their text alone."""
+"""The whole box of document 01 with Reqs 01 and 04, from their text alone."""
 
 from typing import NamedTuple, Optional
 
-from controllers import EDIT_LENGTH, TOO_SHORT, apply, back, read, split
+from controllers import TOO_SHORT, apply, back, read, scale, split
+from kinds import (BY_NUMBER, DUMP, EDIT, END, MAKER, PROGRAM, PROGRAMS,
+                   REQUEST, START)
 
-PROGRAMS = 36     # "36 programs (0x00 to 0x23, shown 1A to 9D)"
-EDIT_START = PROGRAMS * EDIT_LENGTH       # "then the edit buffer"
-MEMORY_LENGTH = EDIT_START + EDIT_LENGTH  # "2,664 bytes in all"
-LONGEST = 5193    # "5,193 with F7 is the longest message"
-MOST_STORED = 5192  # "At most 5,192 are stored"
 TOP_BYTE = 0x7F   # "Bytes below 0x80 are added"
 TOP_CHANNEL = 15  # "channel 0 to 15"
 VERSION = 0       # "Dump version is 0."
-START, END = 0xF0, 0xF7
 REAL_TIME = 0xF8  # "F8 to FF"
 END_BYTE = bytes((END,))
 
@@ -23,7 +19,7 @@ REPLIED = 2           # "reply written, with its length"
 CUT = 4               # "SysEx cut"
 TOO_LONG = 10         # "SysEx too long"
 NOT_OURS = 11         # "not ours"
-UNKNOWN_KIND = 12     # "opcode or type unknown or missing"
+NO_FORM = 12          # "opcode or type unknown or missing"
 WRONG_LENGTH = 13     # "wrong length"
 NO_PROGRAM = 14       # "program above 0x23"
 WRONG_VERSION = 15    # "version not 0"
@@ -32,35 +28,20 @@ NO_CONTROLLER = 21    # "channel message other than a controller"
 OTHER_IDENTITY = 22   # "identity request for another channel, not omni"
 NO_SOCKET = 31        # "socket not 0 or 1"
 NOT_SOUND = 32        # "receiver not sound, or a setting out of its range"
-
-# "All the rest begins F0 00 01 0C 01"
-HEADER = bytes.fromhex('F0 00 01 0C 01')
+NO_KIND = 32          # Req 04: "a kind that is neither gives 32"
 
 # "Identity: F0 7E cc 06 01 F7", before and after cc
 IDENTITY_FRONT = bytes.fromhex('F0 7E')
 IDENTITY_BACK = bytes.fromhex('06 01 F7')
 EVERY_CHANNEL = 0x7F  # "Taken when cc is the channel, or 7F"
-# "F0 7E cc 06 02 00 01 0C 00 00 00 01", after cc
-IDENTITY_REPLY = bytes.fromhex('06 02 00 01 0C 00 00 00 01')
+# "F0 7E cc 06 02 00 01 0C ..", after cc and up to what the kind says it is
+IDENTITY_REPLY = bytes((6, 2)) + MAKER
 
-REQUEST, DUMP = 0, 1          # opcodes
-PROGRAM, EDIT, ALL = 0, 1, 2  # types
+# The channel messages that are looked into, by a status byte's upper half
+CONTROLLER, PROGRAM_CHANGE = 0xB, 0xC
 
-# "opcode and type", then "Whole length"
-LENGTHS = {
-    (REQUEST, PROGRAM): 9,
-    (REQUEST, EDIT): 8,
-    (REQUEST, ALL): 8,
-    (DUMP, PROGRAM): 154,
-    (DUMP, EDIT): 153,
-    (DUMP, ALL): 5193,
-}
-
-# The buffers that are lent, and the least length of each: memory 2,664, "a
-# receive buffer of at least 5,193 bytes.  The reply buffer has at least
-# 5,193."
+# The buffers that are lent, in the order of a kind's least lengths
 MEMORY, RECEIVE, REPLY = 0, (1, 2), 3
-LEAST = (MEMORY_LENGTH, LONGEST, LONGEST, LONGEST)
 
 
 class Settings:
@@ -110,18 +91,19 @@ class Receiver:
         self.held = 0     # 1: the first data byte of two waits
         self.waiting = 0  # that byte; 0 where none waits
 
-    def is_sound(self):
+    def is_sound(self, kind):
         """Say whether "a receiver is sound"; a flag is 0 or 1."""
         return (self.inside <= 1 and self.over <= 1 and self.held <= 1
-                and self.is_open_sound() and self.is_channel_sound())
+                and self.is_open_sound(kind) and self.is_channel_sound())
 
-    def is_open_sound(self):
+    def is_open_sound(self, kind):
         """Say so of an open SysEx, with flags of 0 or 1."""
         # "its stored count is 0 to 5,192, at least 1 exactly when a SysEx is
-        # open"; "too long is marked only on an open SysEx with 5,192 stored"
-        return (self.stored <= MOST_STORED
+        # open"; "too long is marked only on an open SysEx with 5,192 stored".
+        # Req 04: "the sound receiver's limits use the kind's own lengths"
+        return (self.stored <= kind.most_stored
                 and (self.stored >= 1) == (self.inside == 1)
-                and (self.over == 0 or self.stored == MOST_STORED))
+                and (self.over == 0 or self.stored == kind.most_stored))
 
     def is_channel_sound(self):
         """Say so of running status and a waiting byte."""
@@ -135,23 +117,23 @@ class Receiver:
             return self.waiting <= TOP_BYTE and takes_two(self.running)
         return self.waiting == 0
 
-    def take(self, byte, receive):
+    def take(self, kind, byte, receive):
         """Take one byte, beside the receive buffer; return what it makes."""
         # "F8 to FF: reply number 0, and nothing changes, in the middle of a
         # message too."
         if byte >= REAL_TIME:
             return Taken()
         if self.inside == 1:
-            return self.take_inside(byte, receive)
+            return self.take_inside(kind, byte, receive)
         if byte > TOP_BYTE:
             self.take_status(byte, receive)
             return Taken()
         return Taken(channel=self.take_data(byte))
 
-    def take_inside(self, byte, receive):
+    def take_inside(self, kind, byte, receive):
         """Take a byte below F8 in an open SysEx."""
         if byte <= TOP_BYTE:
-            self.collect(byte, receive)
+            self.collect(kind, byte, receive)
             return Taken()
         stored, over = self.stored, self.over
         self.stored = self.inside = self.over = 0
@@ -166,11 +148,11 @@ class Receiver:
         # "F7 finishes it."  "F7 is not stored."
         return Taken(sysex=bytes(receive[:stored]) + END_BYTE)
 
-    def collect(self, byte, receive):
-        """Add a byte to the open SysEx."""
+    def collect(self, kind, byte, receive):
+        """Add a byte below 0x80 to the open SysEx."""
         # "At most 5,192 are stored ... A further byte is dropped and the
         # message marked too long"
-        if self.stored == MOST_STORED:
+        if self.stored == kind.most_stored:
             self.over = 1
         else:
             receive[self.stored] = byte
@@ -184,8 +166,8 @@ class Receiver:
         self.held = self.waiting = 0
         self.running = byte if byte < START else 0
         if byte == START:
-            self.inside = 1
-            self.collect(byte, receive)
+            self.inside = self.stored = 1
+            receive[0] = byte
 
     def take_data(self, byte):
         """Return the channel message that a data byte finishes, or None."""
@@ -219,45 +201,61 @@ def is_identity(message):
             and message[2] <= TOP_BYTE)
 
 
-def part_of(kind, named):
+def part_of(kind, typed, named):
     """Return the part of memory that a request or a dump is about."""
     # "programs in number order, then the edit buffer"
-    if kind == PROGRAM:
-        start = named[0] * EDIT_LENGTH
-        return slice(start, start + EDIT_LENGTH)
-    if kind == EDIT:
-        return slice(EDIT_START, MEMORY_LENGTH)
+    if typed == PROGRAM:
+        start = named[0] * kind.size
+        return slice(start, start + kind.size)
+    if typed == EDIT:
+        return slice(kind.edit_start, kind.memory_length)
     # "All programs go in number order; that dump does not touch the edit
     # buffer."
-    return slice(0, EDIT_START)
+    return slice(0, kind.edit_start)
 
 
 class Box:
-    """Settings, memory, two sockets and a reply buffer, as they are lent."""
+    """Kind, settings, memory, two sockets and a reply buffer, as lent."""
 
-    def __init__(self, memory_length=MEMORY_LENGTH, buffer_length=LONGEST):
+    def __init__(self, kind, memory_length=None, buffer_length=None):
+        self.kind_number = kind.number  # what every call brings
         self.settings = Settings()
-        self.memory = bytearray(memory_length)  # "Fresh memory is all zero."
-        self.edit = memoryview(self.memory)[EDIT_START:MEMORY_LENGTH]
+        # "Fresh memory is all zero."
+        self.memory = bytearray(memory_length or kind.memory_length)
         self.receivers = (Receiver(), Receiver())  # "Two sockets, 0 and 1."
+        buffer_length = buffer_length or kind.longest
         self.receive = (bytearray(buffer_length), bytearray(buffer_length))
         self.reply = bytearray(buffer_length)
         # of each buffer, how many first bytes a call is lent
-        self.lent = list(LEAST)
+        self.lent = list(kind.least)
+
+    @property
+    def kind(self):
+        """Return the kind whose number is brought, None for no kind."""
+        return BY_NUMBER.get(self.kind_number)
+
+    @property
+    def edit(self):
+        """Return the edit buffer of the kind that is brought."""
+        return memoryview(self.memory)[part_of(self.kind, EDIT, ())]
 
     def is_short(self, *buffers):
         """Say whether one of these buffers is lent too short."""
-        return any(self.lent[buffer] < LEAST[buffer] for buffer in buffers)
+        return any(self.lent[buffer] < self.kind.least[buffer]
+                   for buffer in buffers)
 
     def whole(self, message: bytes) -> tuple:
         """Judge a message handed over at once: (number, reply length)."""
+        # Req 04: "a kind that is neither gives 32, just before 30"
+        if self.kind is None:
+            return NO_KIND, 0
         # "30 for the memory or the reply buffer, 32 for a setting, then 10
         # if over 5,193 bytes, then 11 ...; then as above"
         if self.is_short(MEMORY, REPLY):
             return TOO_SHORT, 0
         if not self.settings.in_range():
             return NOT_SOUND, 0
-        if len(message) > LONGEST:
+        if len(message) > self.kind.longest:
             return TOO_LONG, 0
         if not is_framed(message):
             return NOT_OURS, 0
@@ -267,15 +265,11 @@ class Box:
         """Take one byte on one socket: (number, reply length)."""
         # a number that is no socket's is lent the second one's
         own = 0 if socket == 0 else 1
-        receiver = self.receivers[own]
-        # "A call tests 30, 31, 32 in that order, then takes the byte."
-        if self.is_short(MEMORY, RECEIVE[own], REPLY):
-            return TOO_SHORT, 0
-        if socket not in (0, 1):
-            return NO_SOCKET, 0
-        if not (receiver.is_sound() and self.settings.in_range()):
-            return NOT_SOUND, 0
-        number, sysex, channel = receiver.take(byte, self.receive[own])
+        refusal = self.turn_away(socket, own)
+        if refusal is not None:
+            return refusal, 0
+        number, sysex, channel = self.receivers[own].take(
+            self.kind, byte, self.receive[own])
         if sysex is not None:
             return self.judge_sysex(sysex)
         # "The reply length is 0 unless the number is 2."
@@ -283,47 +277,78 @@ class Box:
             return self.judge_channel(*channel), 0
         return number, 0
 
+    def turn_away(self, socket, own):
+        """Return why a byte is not taken, None where it is."""
+        if self.kind is None:
+            return NO_KIND
+        # "A call tests 30, 31, 32 in that order, then takes the byte."
+        if self.is_short(MEMORY, RECEIVE[own], REPLY):
+            return TOO_SHORT
+        if socket not in (0, 1):
+            return NO_SOCKET
+        if not (self.receivers[own].is_sound(self.kind)
+                and self.settings.in_range()):
+            return NOT_SOUND
+        return None
+
+    def scale(self, controller: int, value: int) -> tuple:
+        """Return the number of a controller's value, or why it has none."""
+        if self.kind is None:
+            return 'refused', NO_KIND
+        return scale(self.kind, controller, value)
+
     def back(self, controller: int) -> tuple:
         """Return the value that a controller shows, or why it shows none."""
+        if self.kind is None:
+            return 'refused', NO_KIND
         # where memory is too short, so is what is lent of the edit buffer
-        lent = max(self.lent[MEMORY] - EDIT_START, 0)
-        return back(controller, self.edit[:lent])
+        lent = max(self.lent[MEMORY] - self.kind.edit_start, 0)
+        return back(self.kind, controller, self.edit[:lent])
 
     def judge_channel(self, status, first, second=0):
         """Return the number of a finished channel message."""
-        # "a finished channel message 20, 21, 17, 18, 19"
+        # "a finished channel message 20, 21, 17, 18, 19"; Req 04: "a program
+        # change .. that passes check 20"
         if not self.settings.hear(status & 0x0F):
             return OTHER_CHANNEL
-        if status >> 4 != 0xB:
+        if status >> 4 == PROGRAM_CHANGE and first in self.kind.changes:
+            return self.recall(self.kind.changes.index(first))
+        if status >> 4 != CONTROLLER:
             return NO_CONTROLLER
-        return apply(first, second, self.edit)
+        return apply(self.kind, first, second, self.edit)
+
+    def recall(self, program):
+        """Copy a program into the edit buffer: "and returns 1"."""
+        self.edit[:] = self.memory[part_of(self.kind, PROGRAM, (program,))]
+        return STORED
 
     def judge_sysex(self, message):
         """Judge a finished SysEx that is not too long."""
         # "A finished SysEx is tested 10, 11, 12, 13, 14, 15, 16"
         if is_identity(message):
             return self.identify(message[2])
-        # "All the rest begins F0 00 01 0C 01, else 11, too short included."
-        if not message.startswith(HEADER):
+        # "All the rest begins F0 00 01 0C 01, else 11, too short included.",
+        # or 02 as Req 04 has it
+        if not message.startswith(self.kind.header):
             return NOT_OURS, 0
-        fields = message[len(HEADER):-1]
+        fields = message[len(self.kind.header):-1]
         form = tuple(fields[:2])
-        if form not in LENGTHS:
-            return UNKNOWN_KIND, 0
-        if len(message) != LENGTHS[form]:
+        if form not in self.kind.lengths:
+            return NO_FORM, 0
+        if len(message) != self.kind.lengths[form]:
             return WRONG_LENGTH, 0
         return self.judge_fields(*form, fields[2:])
 
-    def judge_fields(self, opcode, kind, fields):
+    def judge_fields(self, opcode, typed, fields):
         """Judge a message of known form and right length."""
         # "00 00 pp", "01 00 pp vv data": only these name a program
-        count = 1 if kind == PROGRAM else 0
+        count = 1 if typed == PROGRAM else 0
         named, rest = fields[:count], fields[count:]
         if any(program >= PROGRAMS for program in named):
             return NO_PROGRAM, 0
-        part = part_of(kind, named)
+        part = part_of(self.kind, typed, named)
         if opcode == REQUEST:
-            return self.answer(kind, named, part)
+            return self.answer(typed, named, part)
         return self.load(rest, part), 0
 
     def load(self, fields, part):
@@ -339,10 +364,10 @@ class Box:
         self.memory[part] = found
         return STORED
 
-    def answer(self, kind, named, part):
+    def answer(self, typed, named, part):
         """Write the dump that answers a request."""
         # "Requests are answered by the dump with the same type, version 0."
-        return self.write(HEADER, (DUMP, kind), named, (VERSION,),
+        return self.write(self.kind.header, (DUMP, typed), named, (VERSION,),
                           split(self.memory[part]), END_BYTE)
 
     def identify(self, channel):
@@ -352,7 +377,8 @@ class Box:
             return OTHER_IDENTITY, 0
         # "with cc as received"
         return self.write(IDENTITY_FRONT, (channel,), IDENTITY_REPLY,
-                          self.settings.revision, END_BYTE)
+                          self.kind.identity, self.settings.revision,
+                          END_BYTE)
 
     def write(self, *pieces):
         """Write a reply: "first bytes of the reply buffer"."""

@@ -3,70 +3,69 @@
 from functools import partial
 from random import Random
 
-from box import EDIT, LEAST, PROGRAM, REPLY
+from box import REPLY
 from chance import add_random
-from controllers import AT_LEAST, TABLE
-from judging import add_identities, add_kinds, add_orders
-from lent import (FULL, NO_CONTROLLERS, SOUND, UNSOUND, add_back,
-                  add_back_order, add_beyond, add_lengths, add_long_buffers,
-                  add_odd, add_receivers, add_scaling, add_stale,
-                  add_turned_away)
-from messages import HALVES, changed, dump, identity, request, resized, wave
+from judging import add_identities, add_orders, add_others, add_unknown
+from kinds import EDIT, EVERY_CONTROLLER, PROGRAM, others
+from lent import (NO_CONTROLLERS, add_back, add_back_order, add_beyond,
+                  add_lengths, add_long_buffers, add_odd, add_receivers,
+                  add_scale_order, add_scaling, add_stale, add_turned_away,
+                  fill, full, sound, unsound)
+from messages import changed, dump, identity, request, resized, wave
 from player import ROOMS
 from script import Script
-from sockets import (add_apart, add_channels, add_controllers, add_cuts,
-                     add_mixed, add_numbers, add_panel, add_pieces,
-                     add_raised, add_real_time, add_running, add_shared)
+from sockets import (add_apart, add_changes, add_channels, add_controllers,
+                     add_cuts, add_mixed, add_numbers, add_panel, add_pieces,
+                     add_raised, add_real_time, add_recalled, add_running,
+                     add_shared)
+from switched import (NO_KINDS, add_no_kinds, add_other_buffers,
+                      add_switched)
 
 
 def add_opening(script):
-    """Every number of the table, with both sockets fresh at the end."""
+    """Every number that the kind can give; both sockets fresh at the end."""
     for socket in (0, 1):
         # what stands in the receive buffer is judged: no F0 in front, 11
         script.receiver(socket, stored=1, inside=1)
         script.send_hex(socket, '7E 7F 06 01 F7')
-    hand = partial(script.feed, 0)
-    good = dump(EDIT, wave(1, HALVES))
+    kind, hand = script.kind, partial(script.feed, 0)
+    good = dump(kind, EDIT, wave(1, kind.halves))
+    last = len(good) - 1
     for message in (
-            good, request(EDIT),                                # 1, 2
+            good, request(kind, EDIT),                          # 1, 2
             changed(good, 3, 0), changed(good, 6, 3),           # 11, 12
-            resized(good, 152), request(PROGRAM, 0x24),         # 13, 14
-            changed(good, 7, 1), changed(good, 151, 0x10),      # 15, 16
+            resized(good, last), request(kind, PROGRAM, 0x24),  # 13, 14
+            changed(good, 7, 1), changed(good, last - 1, 0x10),  # 15, 16
             identity(5)):                                       # 22
         script.whole(message)
         hand(message)
-    # 4; 3, 17, 18 and 19; 20; 21
-    script.send_hex(1, 'F0 B0 0D 01 00 00 0C 1C 13 06 37 00 B1 0D 01 C0 05 F7')
-    script.receiver(1, **FULL)
+    # 4; 3, 17, 18 and 19 or 17; 20; 21 or 1; 21
+    script.send_hex(1, 'F0 B0 0D 01 00 00 0C 1C 13 06 37 00 B1 0D 01'
+                       'C0 05 25 F7')
+    script.receiver(1, **full(kind))
     script.send_hex(1, '00 F7')                                 # 10
-    script.lend(REPLY, LEAST[REPLY] - 1)
+    script.lend(REPLY, kind.least[REPLY] - 1)
     script.send_hex(0, 'F8')                                    # 30
     script.lend_back(REPLY)
     script.send_hex(2, 'F8')                                    # 31
     script.settings(16, 0)
     script.send_hex(0, 'F8')                                    # 32
     script.settings(0, 0)
-    script.poke(2592, 2)
-    script.back(25, 13)                                         # 40
+    controller, rule = next(iter(kind.table.items()))
+    fill(script, rule.field, 0xFF)
+    script.back(controller, 13)                                 # 40
     script.scale(127)
 
 
-def add_lent(script):
+def add_lent(script, shown):
     """What is lent, scaled and shown back: less than in the script lent."""
-    add_odd(script)
-    add_receivers(script, 0, UNSOUND, 'F8')
-    add_receivers(script, 1, UNSOUND, '0D')
-    for socket in (0, 1):
-        add_receivers(script, socket, SOUND, '05 F7')
-        add_stale(script, socket)
-    for buffer, least in enumerate(LEAST):
+    kind = script.kind
+    for buffer, least in enumerate(kind.least):
         add_lengths(script, buffer, (least - 1, ROOMS[buffer]))
-    add_long_buffers(script, request(EDIT))
-    add_turned_away(script)
-    add_scaling(script, (*TABLE, *NO_CONTROLLERS),
+    add_long_buffers(script, request(kind, EDIT))
+    add_scaling(script, (*kind.table, *NO_CONTROLLERS),
                 (0, 64, 127, 128, 1 << 24))
-    add_scaling(script, AT_LEAST, range(1, 8))
-    for controller in (25, 13, 4, 12, 23, 30, 62, 49, 52, 56, *AT_LEAST):
+    for controller in shown:
         add_back(script, controller)
     add_back_order(script)
 
@@ -87,16 +86,54 @@ def add_bytes(script):
     add_panel(script)
 
 
+def add_pod(script):
+    """A POD's part: document 01, and Req 01."""
+    kind = script.kind
+    add_odd(script)
+    add_receivers(script, 0, unsound(kind), 'F8')
+    add_receivers(script, 1, unsound(kind), '0D')
+    for socket in (0, 1):
+        add_receivers(script, socket, sound(kind), '05 F7')
+        add_stale(script, socket)
+    add_lent(script, (25, 13, 4, 12, 23, 30, 62, 49, 52, 56, *kind.at_least))
+    add_scaling(script, kind.at_least, range(1, 8))
+    add_turned_away(script)
+    add_other_buffers(script)
+    add_bytes(script)
+    add_unknown(kind, script.whole)
+    add_orders(kind, partial(script.feed, 1))
+    add_identities(script, partial(script.feed, 0), ((9, 0), (15, 1)))
+
+
+def add_other(script):
+    """Another kind's part: what hangs on the kind."""
+    kind = script.kind
+    add_receivers(script, 0, unsound(kind)[:6], '0D')
+    add_receivers(script, 1, sound(kind)[:9], '05 F7')
+    add_lent(script, kind.table)
+    add_no_kinds(script, NO_KINDS[::4])
+    add_other_buffers(script)
+    add_scale_order(script)
+    add_changes(script, 0)
+    add_recalled(script)
+    add_controllers(script, 1, (15, 16, 63, 64), EVERY_CONTROLLER)
+    add_pieces(script)
+    add_others(kind, script.whole)
+    for channel in (0, 0x7F):
+        script.feed(1, identity(channel))
+
+
 def make_brief():
     """Return the script that is committed."""
     script = Script()
     add_beyond(script)
     add_opening(script)
-    add_lent(script)
-    add_bytes(script)
-    add_kinds(script.whole)
-    add_orders(partial(script.feed, 1))
-    add_identities(script, partial(script.feed, 0), ((9, 0), (15, 1)))
+    add_pod(script)
+    for kind in others(script.kind):
+        script.become(kind)
+        add_opening(script)
+        add_other(script)
+    add_switched(script)
     add_random(script, Random(4), 1100, 6)
     # "A rest of fewer than 4 bytes at the end is ignored"
     return bytes(script.commands) + b'WWW'

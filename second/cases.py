@@ -1,13 +1,19 @@
 """Check controllers.py and box.py against the bench cases of document 01.
 
-Cases of Req 01, of document 02, stand beside them.
+Cases of Reqs 01 and 04, of document 02, stand beside them. The numbers here
+are the documents', and none of them is computed from a kind.
 """
 
 from box import Box, Receiver
-from controllers import TABLE, apply, back, join, read, scale, split, store
-from lent import SOUND, UNSOUND
+from controllers import apply, back, join, read, scale, split, store
+from kinds import BASS, KINDS, POD
+from lent import sound, unsound
+from switched import NO_KINDS
 
 LONG = (26, 27, 28)  # "30 and 62, bytes 26 to 28"
+# "identity 02 00 00 00"; the revision of a fresh box
+POD_REPLY = 'F0 7E 7F 06 02 00 01 0C 00 00 00 01 30 31 30 30 F7'
+BASS_REPLY = 'F0 7E 7F 06 02 00 01 0C 02 00 00 00 30 31 30 30 F7'
 
 
 def expect(case, got, wanted):
@@ -16,9 +22,9 @@ def expect(case, got, wanted):
         raise AssertionError(f'{case}: {got} instead of {wanted}')
 
 
-def buffer_with(changes):
-    """Return 72 zero bytes with some places changed."""
-    buffer = bytearray(72)
+def buffer_with(changes, length=72):
+    """Return zero bytes with some places changed."""
+    buffer = bytearray(length)
     for place, byte in changes.items():
         buffer[place] = byte
     return buffer
@@ -52,15 +58,15 @@ def check_scaling():
         (59, 0, 0),
     )
     for controller, value, number in cases:
-        expect(f'{controller} at {value}', scale(controller, value),
+        expect(f'{controller} at {value}', scale(POD, controller, value),
                ('value', number))
     # "A controller not in the table or above 127, and 30 and 62 ... are 17"
     for controller in (0, 30, 62, 120, 127, 128):
-        expect(f'{controller} at 200', scale(controller, 200),
+        expect(f'{controller} at 200', scale(POD, controller, 200),
                ('refused', 17))
     # "then a value above its range or above 127 is 18"
     for controller, value in ((12, 28), (71, 16), (19, 16), (25, 128)):
-        expect(f'{controller} at {value}', scale(controller, value),
+        expect(f'{controller} at {value}', scale(POD, controller, value),
                ('refused', 18))
 
 
@@ -92,10 +98,10 @@ def check_applying():
     for controller, value, setting, answer, changes in cases:
         buffer = buffer_with({46: setting})
         case = f'{controller} at {value}, byte 46 at {setting}'
-        expect(case, apply(controller, value, buffer), answer)
+        expect(case, apply(POD, controller, value, buffer), answer)
         expect(case, buffer, buffer_with({46: setting, **changes}))
     short = bytearray(71)
-    expect('71 bytes applied', apply(0, 128, short), 30)
+    expect('71 bytes applied', apply(POD, 0, 128, short), 30)
     expect('71 bytes kept', short, bytearray(71))
 
 
@@ -110,13 +116,13 @@ def check_parts():
     )
     for controller, value, stored in steps:
         case = f'{controller} at {value}'
-        expect(case, apply(controller, value, buffer), 3)
+        expect(case, apply(POD, controller, value, buffer), 3)
         expect(case, buffer, buffer_with(dict(
             zip(LONG, bytes.fromhex(stored)))))
     # the cap: "at most 16,383", and the dropped remainder
     for controller, before, after in ((62, 0xFFFFFF, 97536), (30, 7, 6)):
         store(LONG, before, buffer)
-        apply(controller, 0, buffer)
+        apply(POD, controller, 0, buffer)
         expect(f'{controller} over {before}',
                int.from_bytes(buffer[26:29], 'little'), after)
 
@@ -164,8 +170,8 @@ def check_back():
     )
     for controller, changes, answer in cases:
         expect(f'back {controller} of {changes}',
-               back(controller, buffer_with(changes)), answer)
-    expect('back of 71 bytes', back(0, bytearray(71)), ('refused', 30))
+               back(POD, controller, buffer_with(changes)), answer)
+    expect('back of 71 bytes', back(POD, 0, bytearray(71)), ('refused', 30))
 
 
 def send(box, data, socket=0):
@@ -192,7 +198,7 @@ def check_calls():
     )
     for data, number, changes in cases:
         for socket in (0, 1):
-            box = Box()
+            box = Box(POD)
             place = len(bytes.fromhex(data)) - 1
             expect(data, send(box, data, socket)[-1], (place, number, 0))
             expect(data, box.memory,
@@ -214,34 +220,215 @@ def check_forms():
         (f'F0 00 01 0C 01 01 00 23 00 {halves[2:]} F7', 13, 0, kept),
     )
     for data, number, length, memory in cases:
-        message = bytes.fromhex(data)
-        box = Box()
-        expect(f'{data} whole', box.whole(message), (number, length))
-        expect(f'{data} whole', box.memory, memory)
-        box = Box()
-        expect(data, send(box, data), [(len(message) - 1, number, length)])
-        expect(data, box.memory, memory)
+        check_form(POD, data, (number, length), memory)
+
+
+def check_form(kind, data, answer, memory):
+    """A message on a socket of a fresh box, and handed over whole."""
+    message = bytes.fromhex(data)
+    box = Box(kind)
+    expect(f'{data} whole', box.whole(message), answer)
+    expect(f'{data} whole', box.memory, memory)
+    box = Box(kind)
+    expect(data, send(box, data), [(len(message) - 1, *answer)])
+    expect(data, box.memory, memory)
 
 
 def check_listing():
     """The four numbered lines of the listing."""
     expect('listing',
-           send(Box(), 'B0 0D 7F F8 0E 40 F0 7E 7F 06 01 F7 C0 05'),
+           send(Box(POD), 'B0 0D 7F F8 0E 40 F0 7E 7F 06 01 F7 C0 05'),
            [(2, 3, 0), (5, 3, 0), (11, 2, 17), (13, 21, 0)])
 
 
 def check_receivers():
     """Receivers at the borders of being sound."""
-    for listed, wanted in ((SOUND, True), (UNSOUND, False)):
-        for parts in listed:
-            receiver = Receiver()
-            vars(receiver).update(parts)
-            expect(f'{parts} is sound', receiver.is_sound(), wanted)
+    for kind in KINDS:
+        for listed, wanted in ((sound, True), (unsound, False)):
+            for parts in listed(kind):
+                expect(f'{kind.word}: {parts} is sound',
+                       receiver_with(parts).is_sound(kind), wanted)
+    # "the sound receiver's limits use the kind's own lengths"
+    for count, pod, bass in ((5192, True, True), (5193, False, True),
+                             (5768, False, True), (5769, False, False)):
+        receiver = receiver_with({'stored': count, 'inside': 1})
+        expect(f'{count} stored', (receiver.is_sound(POD),
+                                   receiver.is_sound(BASS)), (pod, bass))
+
+
+def receiver_with(parts):
+    """Return a fresh receiver with some parts changed."""
+    receiver = Receiver()
+    vars(receiver).update(parts)
+    return receiver
+
+
+# Req 04
+
+
+def check_kinds():
+    """The lengths of each kind, as the documents give them."""
+    # "2,664 bytes in all", "5,193 with F7 is the longest message"; "A Bass
+    # box's longest message and its buffers are 5,769 bytes, its memory 2,960.
+    # Whole lengths are 170, 169 and 5,769; requests keep theirs."
+    for kind, memory, longest, lengths in (
+            (POD, 2664, 5193, [9, 8, 8, 154, 153, 5193]),
+            (BASS, 2960, 5769, [9, 8, 8, 170, 169, 5769])):
+        expect(f'{kind.word}, lent', kind.least,
+               (memory, longest, longest, longest))
+        expect(f'{kind.word}, lengths', [*kind.lengths.values()], lengths)
+    # "80 data bytes a program (160 half bytes), all programs 5,760"
+    expect('bass, half bytes', (BASS.halves, BASS.all_halves), (160, 5760))
+    # "These 49 controllers are all."; "Only these controllers"
+    expect('controllers', [len(kind.table) for kind in KINDS], [49, 10])
+
+
+def check_identities():
+    """What each kind says it is, and that it keeps to its channel."""
+    for kind, reply in ((POD, POD_REPLY), (BASS, BASS_REPLY)):
+        box = Box(kind)
+        expect(f'{kind.word}, identity',
+               send(box, 'F0 7E 7F 06 01 F7 F0 7E 01 06 01 F7'),
+               [(5, 2, 17), (11, 22, 0)])
+        expect(f'{kind.word}, identity reply', box.reply[:17],
+               bytes.fromhex(reply))
+
+
+def check_bass_forms():
+    """Each length right and one off, and either unit's header."""
+    ours, theirs = 'F0 00 01 0C 02', 'F0 00 01 0C 01'
+    one, every = '0A 07' * 80, '0A 07' * 2880
+    kept, edit = bytes(2960), bytes(2880) + b'\xA7' * 80
+    last = bytes(35 * 80) + b'\xA7' * 80 + bytes(80)
+    cases = (
+        (f'{ours} 00 00 23 F7', 2, 170, kept),
+        (f'{ours} 00 01 F7', 2, 169, kept),
+        (f'{ours} 00 02 F7', 2, 5769, kept),
+        (f'{ours} 01 00 23 00 {one} F7', 1, 0, last),
+        (f'{ours} 01 01 00 {one} F7', 1, 0, edit),
+        (f'{ours} 01 02 00 {every} F7', 1, 0, b'\xA7' * 2880 + bytes(80)),
+        *((f'{ours} {form} F7', 13, 0, kept) for form in (
+            '00 00', '00 00 23 00', '00 01 00', '00 02 00',
+            f'01 00 23 00 {one[2:]}', f'01 00 23 00 {one} 00',
+            f'01 01 00 {one[2:]}', f'01 01 00 {one} 00',
+            f'01 02 00 {every[2:]}')),
+        (f'{ours} 01 02 00 {every} 00 F7', 10, 0, kept),
+        # a POD's lengths under our header
+        (f'{ours} 01 00 23 00 {"00" * 144} F7', 13, 0, kept),
+        (f'{ours} 01 02 00 {"00" * 5184} F7', 13, 0, kept),
+        # a POD's header
+        *((f'{theirs} {form} F7', 11, 0, kept) for form in (
+            '00 01', f'01 00 23 00 {one}', f'01 01 00 {"00" * 144}')),
+        # "a bad half byte in program 36 then leaves 35 new ones"
+        (f'{ours} 01 02 00 {every[:-2]} 10 F7', 16, 0, kept),
+        (f'{ours} 01 00 24 01 {one[:-2]} 10 F7', 14, 0, kept),
+        (f'{ours} 01 00 23 01 {one[:-2]} 10 F7', 15, 0, kept),
+    )
+    for data, number, length, memory in cases:
+        check_form(BASS, data, (number, length), memory)
+    # and the Bass POD's header for a POD
+    check_form(POD, f'{ours} 00 01 F7', (11, 0), bytes(2664))
+    check_form(POD, f'{ours} 01 01 00 {one} F7', (11, 0), bytes(2664))
+
+
+def check_bass_moves():
+    """Each controller of a Bass box at its ends, and those it has not."""
+    moves = (
+        # controller, byte, then values and what they store
+        (12, 3, {0: 0, 15: 15, 16: None}),
+        (19, 49, {0: 0, 15: 15, 16: None}),
+        (64, 2, {0: 0, 63: 0, 64: 1, 127: 1}),
+        *((controller, place, {0: 0, 1: 0, 2: 1, 127: 63})
+          for controller, place in ((13, 4), (14, 6), (15, 7), (16, 8),
+                                    (17, 10), (18, 11), (1, 50))),
+    )
+    for controller, place, values in moves:
+        for value, stored in values.items():
+            check_move(controller, value, place, stored)
+    for controller in {*range(130)} - {move[0] for move in moves}:
+        case = f'bass, {controller}'
+        buffer = bytearray(80)
+        expect(case, apply(BASS, controller, 0, buffer), 17)
+        expect(case, scale(BASS, controller, 200), ('refused', 17))
+        expect(case, back(BASS, controller, buffer), ('refused', 17))
+    expect('bass, 79 bytes', back(BASS, 12, bytes(79)), ('refused', 30))
+
+
+def check_move(controller, value, place, stored):
+    """A move on a Bass box, scaled and applied; None is out of range."""
+    case = f'bass, {controller} at {value}'
+    box = Box(BASS)
+    data = bytes((0xB0, controller, value)).hex()
+    if stored is None:
+        expect(case, box.scale(controller, value), ('refused', 18))
+        expect(case, send(box, data), [(2, 18, 0)])
+    else:
+        expect(case, box.scale(controller, value), ('value', stored))
+        expect(case, send(box, data), [(2, 3, 0)])
+    expect(case, box.memory,
+           bytes(2880) + buffer_with({place: stored or 0}, 80))
+
+
+def check_bass_back():
+    """What the edit buffer of a Bass box shows."""
+    for controller, changes, answer in (
+            # byte 3 holding 16
+            (12, {3: 15}, ('value', 15)), (12, {3: 16}, ('refused', 40)),
+            (19, {49: 16}, ('refused', 40)), (64, {2: 1}, ('value', 64)),
+            (64, {2: 2}, ('refused', 40)), (13, {4: 63}, ('value', 126)),
+            (1, {50: 64}, ('refused', 40)),
+            # byte 46 plays no part
+            (1, {46: 6, 50: 63}, ('value', 126))):
+        expect(f'bass, back {controller} of {changes}',
+               back(BASS, controller, buffer_with(changes, 80)), answer)
+
+
+def check_changes():
+    """Program changes: copied on a Bass box, 21 on a POD."""
+    memory = b''.join(bytes((program + 1,)) * 80 for program in range(37))
+    for number, program in ((0, None), (1, 0), (2, 1), (36, 35), (37, None),
+                            (127, None)):
+        for channel, omni in ((0, 0), (0, 1), (3, 1), (3, 0)):
+            box = Box(BASS)
+            box.memory[:], box.settings.omni = memory, omni
+            heard = omni or channel == 0
+            copied = heard and program is not None
+            answer = 1 if copied else 21 if heard else 20
+            case = f'program change {number} on {channel}, omni {omni}'
+            # the second one under running status
+            expect(case, send(box, f'C{channel} {number:02X} {number:02X}'),
+                   [(1, answer, 0), (2, answer, 0)])
+            edit = memory[80 * program:][:80] if copied else memory[2880:]
+            expect(case, box.memory, memory[:2880] + edit)
+        box = Box(POD)
+        expect(f'program change {number}, pod',
+               send(box, f'C0 {number:02X}'), [(1, 21, 0)])
+        expect(f'program change {number}, pod', box.memory, bytes(2664))
+
+
+def check_order():
+    """32 for the kind "just before 30", in every call."""
+    for number in (*NO_KINDS, 65536, 65537, 1 << 32):
+        box = Box(POD)
+        box.kind_number, box.lent = number, [0] * 4
+        case = f'kind {number}'
+        expect(case, box.take(2, 0xF8), (32, 0))
+        expect(case, box.whole(b''), (32, 0))
+        expect(case, box.scale(128, 128), ('refused', 32))
+        expect(case, box.back(128), ('refused', 32))
+    # a POD's buffers lent to a Bass call
+    box = Box(POD)
+    box.kind_number = 1
+    expect('30', (box.take(2, 0xF8), box.whole(b''), box.back(128)),
+           ((30, 0), (30, 0), ('refused', 30)))
+    # 5,500 stored is more than a POD's receiver holds
+    box = Box(POD)
+    box.receivers[0].stored, box.receivers[0].inside = 5500, 1
+    expect('5,500 stored', box.take(0, 0xF8), (32, 0))
 
 
 def check():
     """Raise on the first wrong case."""
-    expect('"These 49 controllers are all"', len(TABLE), 49)
     check_halves()
     check_scaling()
     check_applying()
@@ -251,6 +438,13 @@ def check():
     check_forms()
     check_listing()
     check_receivers()
+    check_kinds()
+    check_identities()
+    check_bass_forms()
+    check_bass_moves()
+    check_bass_back()
+    check_changes()
+    check_order()
 
 
 check()

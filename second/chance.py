@@ -1,19 +1,21 @@
 """Scripts at random: fragments of bytes on both sockets, turns between."""
 
-from box import ALL, EDIT, LEAST, MEMORY_LENGTH, PROGRAM, START
-from controllers import AT_LEAST, TABLE
 from judging import WRONG_SETTINGS
-from lent import (NO_CONTROLLERS, NO_SOCKETS, SOUND, UNSOUND, VALUES, fill,
-                  numbers_for, select)
-from messages import (HALVES, changed, dump, edit_with, identity, noise,
-                      request, resized, wave, waves)
+from kinds import (ALL, EDIT, EVERY_CONTROLLER, KINDS, PROGRAM, START,
+                   others)
+from lent import (COUNTS, NO_CONTROLLERS, NO_SOCKETS, VALUES, fill,
+                  numbers_for, select, sound, unsound)
+from messages import (changed, dump, edit_with, identity, noise, request,
+                      resized, wave, waves)
 from player import MEMORY_ROOM, PARTS, ROOMS
+from sockets import CHANGES
+from switched import NO_KINDS
 
 REAL_TIME = range(0xF8, 0x100)  # "F8 to FF"
 BORDERS = (*range(8), 15, 16, 27, 28, 63, 64, 126, 127)  # of values
 
 
-# Fragments: bytes that one socket sends in a row
+# Fragments: bytes that one socket sends in a row to a box of a kind
 
 
 def some_value(chance):
@@ -21,49 +23,64 @@ def some_value(chance):
     return chance.choice((*BORDERS, chance.randrange(128)))
 
 
-def move(chance):
+def move(kind, chance):
     """Return a controller message, most often one in the table."""
-    return bytes((0xB0, chance.choice((*TABLE, 0, 6, 127)),
+    return bytes((0xB0, chance.choice((*kind.table, 0, 6, 127,
+                                       *EVERY_CONTROLLER[::5])),
                   some_value(chance)))
 
 
-def running(chance):
+def running(kind, chance):
     """Return a controller message without its status byte."""
-    return move(chance)[1:]
+    return move(kind, chance)[1:]
 
 
-def selecting(chance):
-    """Return byte 46 set, then a shared controller."""
+def selecting(_, chance):
+    """Return an effect selected, then a controller that may be shared."""
     return bytes((0xB0, 19, chance.randrange(17), chance.randrange(49, 60),
                   some_value(chance)))
 
 
-def asking(chance):
+def changing(_, chance):
+    """Return program changes, one or a few under running status."""
+    count = chance.choice((1, 1, 3))
+    return bytes((chance.choice((0xC0, 0xC0, 0xC5)),
+                  *chance.choices((*CHANGES, *range(1, 37)), k=count)))
+
+
+def asking(kind, chance):
     """Return a request; all programs are asked for less often."""
-    program = request(PROGRAM, chance.randrange(0x26))
+    program = request(kind, PROGRAM, chance.randrange(0x26))
+    edit = request(kind, EDIT)
     return chance.choice((
-        request(EDIT), request(EDIT), program, program, program,
-        request(ALL), *(identity(channel) for channel in (0, 5, 0x7F))))
+        edit, edit, program, program, program, request(kind, ALL),
+        *(identity(channel) for channel in (0, 5, 0x7F))))
 
 
-def storing(chance):
+def storing(kind, chance):
     """Return a dump of a program or of the edit buffer."""
-    data = noise(chance.getrandbits(32), HALVES)
+    data = noise(chance.getrandbits(32), kind.halves)
     version = chance.choice((0, 0, 0, 0, 0, 0, 0, 1))
     return chance.choice((
-        dump(EDIT, data, version=version),
-        dump(PROGRAM, data, chance.randrange(0x25), version=version),
-        edit_with({46: chance.randrange(17)})))
+        dump(kind, EDIT, data, version=version),
+        dump(kind, PROGRAM, data, chance.randrange(0x25), version=version),
+        edit_with(kind, {46: chance.randrange(17)})))
 
 
-def storing_all(chance):
+def storing_all(kind, chance):
     """Return a dump of all programs."""
-    return dump(ALL, waves(chance.getrandbits(32)))
+    return dump(kind, ALL, waves(kind, chance.getrandbits(32)))
 
 
-def begun(chance):
+def foreign(kind, chance):
+    """Return a request or a dump of another unit."""
+    return chance.choice((asking, storing))(chance.choice(others(kind)),
+                                            chance)
+
+
+def begun(kind, chance):
     """Return the beginning of a message."""
-    message = chance.choice((asking, storing))(chance)
+    message = chance.choice((asking, storing))(kind, chance)
     return message[:chance.randrange(1, len(message))]
 
 
@@ -79,25 +96,25 @@ def damage(chance, message):
         resized(message, len(message) + chance.choice((-1, 1)))))
 
 
-def damaged(chance):
+def damaged(kind, chance):
     """Return a damaged request or dump."""
-    return damage(chance, chance.choice((asking, storing))(chance))
+    return damage(chance, chance.choice((asking, storing))(kind, chance))
 
 
-def damaged_all(chance):
+def damaged_all(kind, chance):
     """Return a dump of all programs that is damaged, or cut at its end."""
-    message = storing_all(chance)
+    message = storing_all(kind, chance)
     return chance.choice((damage(chance, message), message[:-1],
                           resized(message, len(message) + 1)))
 
 
-def other_kind(chance):
-    """Return a channel message of any kind on any channel."""
+def any_channel(_, chance):
+    """Return a channel message of any status on any channel."""
     return bytes((chance.randrange(0x80, START), chance.randrange(128),
                   chance.randrange(128)))
 
 
-def stray(chance):
+def stray(_, chance):
     """Return a byte above 0x7F, most often F0 or above."""
     return bytes((chance.randrange(chance.choice((0x80, 0xF0, 0xF0)),
                                    0x100),))
@@ -105,29 +122,34 @@ def stray(chance):
 
 # How often each fragment comes.
 FRAGMENTS = {
-    move: 60, running: 60, selecting: 40, asking: 40, storing: 12, begun: 20,
-    damaged: 20, other_kind: 20, stray: 20, storing_all: 1, damaged_all: 1,
+    move: 60, running: 60, selecting: 40, changing: 20, asking: 40,
+    storing: 12, foreign: 4, begun: 20, damaged: 20, any_channel: 20,
+    stray: 20, storing_all: 1, damaged_all: 1,
 }
 
 
-def fragment(chance):
+def fragment(kind, chance):
     """Return a fragment."""
     make, = chance.choices(tuple(FRAGMENTS), FRAGMENTS.values())
-    return make(chance)
+    return make(kind, chance)
 
 
 # Turns: what else happens between two bytes
 
 
 def add_calls(script, chance):
-    """A few calls of any kind."""
+    """A few calls of any sort."""
+    kind = script.kind
     for _ in range(chance.randrange(1, 5)):
         call = chance.choice((
-            lambda: script.send(chance.randrange(2), stray(chance)),
-            lambda: script.send(chance.randrange(2), asking(chance)[:3]),
-            lambda: script.send(chance.choice(NO_SOCKETS), stray(chance)),
+            lambda: script.send(chance.randrange(2), stray(kind, chance)),
+            lambda: script.send(chance.randrange(2),
+                                asking(kind, chance)[:3]),
+            lambda: script.send(chance.choice(NO_SOCKETS),
+                                stray(kind, chance)),
             lambda: script.add('W'),
-            lambda: script.back(chance.choice(tuple(TABLE)))))
+            lambda: script.scale(chance.choice(VALUES)),
+            lambda: script.back(chance.choice(EVERY_CONTROLLER))))
         call()
 
 
@@ -149,8 +171,9 @@ def turn_wrong(script, chance):
 def turn_short(script, chance):
     """A few calls with a buffer too short."""
     buffer = chance.randrange(len(ROOMS))
-    script.lend(buffer, chance.choice((0, 1, chance.randrange(LEAST[buffer]),
-                                       LEAST[buffer] - 1)))
+    least = script.kind.least[buffer]
+    script.lend(buffer, chance.choice((0, 1, chance.randrange(least),
+                                       least - 1)))
     add_calls(script, chance)
     script.lend_back(buffer)
 
@@ -158,57 +181,85 @@ def turn_short(script, chance):
 def turn_long(script, chance):
     """Lend more of a buffer, or as much as must be."""
     buffer = chance.randrange(len(ROOMS))
-    script.lend(buffer, chance.randrange(LEAST[buffer], ROOMS[buffer] + 9))
+    script.lend(buffer, chance.randrange(script.kind.least[buffer],
+                                         ROOMS[buffer] + 9))
+
+
+def turn_kind(script, chance):
+    """Make the box one of the kinds."""
+    script.become(chance.choice(KINDS))
+
+
+def turn_no_kind(script, chance):
+    """A few calls that bring a number that is no kind's."""
+    script.bring(chance.choice(NO_KINDS))
+    add_calls(script, chance)
+    script.bring_back()
+
+
+def turn_other(script, chance):
+    """A few calls that bring another kind with what is lent now."""
+    script.bring(chance.choice(others(script.kind)).number)
+    add_calls(script, chance)
+    script.bring_back()
 
 
 def turn_unsound(script, chance):
     """A few calls with a receiver that is not sound, then a sound one."""
     socket = chance.randrange(2)
-    script.receiver(socket, **chance.choice(UNSOUND))
+    script.receiver(socket, **chance.choice(unsound(script.kind)))
     add_calls(script, chance)
-    script.receiver(socket, **chance.choice(SOUND))
+    script.receiver(socket, **chance.choice(sound(script.kind)))
 
 
 def turn_receiver(script, chance):
     """Set a receiver, to a sound one or to any bits for a few calls."""
     socket = chance.randrange(2)
     some = (0, 0, 1, 1, 2, 0x7F, 0x80, 0xB0, 0xEF, 0xFF)
-    script.receiver(socket, chance.choice((0, 1, 9, 153, 5191, 5192, 5193)),
+    script.receiver(socket, chance.choice((0, 1, 9, 153, *COUNTS)),
                     **{name: chance.choice(some) for name in PARTS.values()})
     add_calls(script, chance)
-    script.receiver(socket, **chance.choice(SOUND))
+    script.receiver(socket, **chance.choice(sound(script.kind)))
 
 
 def turn_stale(script, chance):
     """Open a SysEx over what stands in a receive buffer."""
+    lengths = script.kind.lengths.values()
     script.receiver(chance.randrange(2), inside=1, stored=chance.choice(
-        (1, 5, 7, 8, 152, 153, 5191, 5192)))
+        (1, 5, *(length - less for length in lengths for less in (1, 2)))))
 
 
 def turn_socket(script, chance):
     """Send bytes on no socket, or on what may be one."""
     wide = chance.randrange(3) + (chance.randrange(256) << 24)
-    script.send(chance.choice((*NO_SOCKETS, wide)), asking(chance)[:4])
+    script.send(chance.choice((*NO_SOCKETS, wide)), 
+                asking(script.kind, chance)[:4])
 
 
 def turn_message(script, chance):
     """Make the message a good one or a damaged one."""
-    seed = chance.randrange(16)
+    kind, seed = script.kind, chance.randrange(16)
     script.put(chance.choice((
-        asking(chance), damaged(chance), edit_with({46: seed}, seed),
-        dump(PROGRAM, wave(seed, HALVES), chance.randrange(0x26)))))
+        asking(kind, chance), damaged(kind, chance), foreign(kind, chance),
+        edit_with(kind, {46: seed}, seed),
+        dump(kind, PROGRAM, wave(seed, kind.halves),
+             chance.randrange(0x26)))))
 
 
 def turn_long_message(script, chance):
     """Make the message a long one, good or damaged, and hand it over."""
-    script.put(chance.choice((storing_all, damaged_all))(chance))
+    make = chance.choice((storing_all, damaged_all))
+    script.put(make(chance.choice((script.kind, script.kind, *KINDS)),
+                    chance))
     script.add('W')
     script.add('M', chance.randrange(2))
 
 
 def turn_length(script, chance):
     """Change the length of the message."""
-    script.edit('L', chance.choice((0, 1, 2, 8, 9, 153, 154, 5193, 5194)))
+    lengths = (length + more for kind in KINDS
+               for length in kind.lengths.values() for more in (0, 1))
+    script.edit('L', chance.choice((0, 1, 2, *lengths)))
 
 
 def turn_byte(script, chance):
@@ -229,7 +280,7 @@ def turn_feed(script, chance):
 
 def turn_scale(script, chance):
     """Ask for scaled values, in the table and out of it."""
-    script.controller(chance.choice((*TABLE, *NO_CONTROLLERS,
+    script.controller(chance.choice((*EVERY_CONTROLLER, *NO_CONTROLLERS,
                                      chance.getrandbits(32))))
     script.scale(chance.choice(VALUES), chance.randrange(130),
                  chance.randrange(256) + (chance.randrange(256) << 24))
@@ -237,12 +288,12 @@ def turn_scale(script, chance):
 
 def turn_back(script, chance):
     """Ask what controllers show."""
-    script.back(*chance.choices((*TABLE, *NO_CONTROLLERS), k=4))
+    script.back(*chance.choices((*EVERY_CONTROLLER, *NO_CONTROLLERS), k=4))
 
 
 def turn_field(script, chance):
     """Write a controller's field under some effect, and show it back."""
-    controller, rule = chance.choice(tuple(TABLE.items()))
+    controller, rule = chance.choice(tuple(script.kind.table.items()))
     numbers = tuple(rule.shown) or range(0, 98304, 6)
     select(script, chance.choice((*(rule.chosen_by or (0,)), 6)))
     fill(script, rule.field, chance.choice((
@@ -252,8 +303,9 @@ def turn_field(script, chance):
 
 def turn_raised(script, chance):
     """Scale and show back around the numbers to which Req 01 raises."""
-    controller, least = chance.choice(tuple(AT_LEAST.items()))
-    rule = TABLE[controller]
+    kind = chance.choice([kind for kind in KINDS if kind.at_least])
+    controller, least = chance.choice(tuple(kind.at_least.items()))
+    rule = kind.table[controller]
     select(script, chance.choice(rule.chosen_by))
     fill(script, rule.field, chance.choice((
         0, least - 1, least, least + 1, 25 * chance.randrange(12))))
@@ -263,14 +315,16 @@ def turn_raised(script, chance):
 
 def turn_poke(script, chance):
     """Set a byte of memory, beyond what must be lent too."""
-    script.poke(chance.choice((chance.randrange(MEMORY_LENGTH),
-                               chance.randrange(MEMORY_LENGTH, MEMORY_ROOM))),
+    length = script.kind.memory_length
+    script.poke(chance.choice((chance.randrange(length),
+                               chance.randrange(length, MEMORY_ROOM))),
                 chance.randrange(256))
 
 
 # How often each turn comes.
 TURNS = {
     turn_settings: 4, turn_wrong: 3, turn_short: 4, turn_long: 3,
+    turn_kind: 4, turn_no_kind: 2, turn_other: 2,
     turn_unsound: 4, turn_receiver: 3, turn_stale: 2, turn_socket: 2,
     turn_message: 5, turn_long_message: 1, turn_length: 1, turn_byte: 3,
     turn_whole: 4, turn_feed: 6, turn_scale: 4, turn_back: 3, turn_field: 6,
@@ -293,7 +347,7 @@ def add_random(script, chance, commands, calm):
         socket = chance.randrange(2)
         for _ in range(chance.choice((1, 1, 2, 40))):
             if not pending[socket]:
-                pending[socket].extend(fragment(chance))
+                pending[socket].extend(fragment(script.kind, chance))
             script.send(socket, (pending[socket].pop(0),))
             # "in the middle of a message too"
             if chance.randrange(20) == 0:

@@ -1,11 +1,12 @@
 """Half bytes and controllers, written from the text of the documents alone.
 
-The page is document 01. Req 01, of document 02, changes one rule of it.
+The page is document 01. Req 01, of document 02, changes one rule of it, and
+Req 04 has a page of its own; kinds.py has the pages' tables. A kind is one of
+those of kinds.py.
 """
 
 from typing import Callable, NamedTuple, Optional
 
-EDIT_LENGTH = 72  # "one edit buffer, 72 bytes each"
 SELECTOR = 46     # "Byte 46 selects"
 TOP = 127         # "above 127 is 18"
 TOP_M = 16383     # "m up to 16,383"
@@ -19,66 +20,22 @@ NOT_SELECTED = 19  # "its effect is not selected"
 TOO_SHORT = 30     # "a lent buffer too short"
 NO_VALUE = 40      # "no controller value gives the stored value"
 
-# "v is the value received, division drops the remainder, a pair c>b is
-# controller and byte."  Each row: pairs, formula, highest value.
-OWN = (
-    # "v/64"
-    ('25>0 26>1 27>2 28>3 50>4 36>5 22>6 73>7 47>24 37>38',
-     lambda v: v // 64, TOP),
-    # "v/2"
-    ('13>9 20>10 14>11 15>12 16>13 21>14 17>15 24>17 32>34 34>36 38>39 '
-     '39>40 40>41 41>42 18>43 72>45 1>47',
-     lambda v: v // 2, TOP),
-    # "v"; "12>8 up to 27; 71>44 and 19>46 up to 15"
-    ('4>18 44>19 45>20 7>22 46>23', lambda v: v, TOP),
-    ('12>8', lambda v: v, 27),
-    ('71>44 19>46', lambda v: v, 15),
-    # "23>16: (127 - v) x 194 / 256"
-    ('23>16', lambda v: (127 - v) * 194 // 256, TOP),
-    # "30 and 62, bytes 26 to 28, lowest first": no formula of v alone
-    ('30>26,27,28 62>26,27,28', None, TOP),
-)
-
-# "Bytes 48 to 54 are shared."  "Two-byte fields are lowest first."
-# Each row: the values of byte 46, then its pairs, each with a formula.
-SHARED = (
-    ((14,), (
-        ('49>48', lambda v: v // 2),)),
-    ((7, 11), (
-        ('42>48', lambda v: v // 22),)),
-    ((0, 1, 3, 4, 8, 12, 13, 15), (
-        ('51>48,49', lambda v: v * 50),
-        ('52>50,51', lambda v: v * 256 // 104),
-        ('53>52', lambda v: v),
-        ('54>53,54', lambda v: v * 256 // 42))),
-    ((2,), (
-        ('55>48', lambda v: v // 64),
-        ('56>49,50 57>51,52', lambda v: v * 22 + 100))),
-    ((5, 9), (
-        ('58>48,49', lambda v: v * 25),
-        ('59>50', lambda v: v))),
-)
-
-# Req 01: "After the formula, 51 is raised to at least 200, 58 to at least 150
-# and 54 to at least 1."
-AT_LEAST = {51: 200, 58: 150, 54: 1}
-
 
 class Rule(NamedTuple):
-    """What the page and Req 01 say of one controller."""
+    """What a kind's page says of one controller."""
 
     field: tuple                 # its bytes, "lowest first"
-    formula: Optional[Callable]  # raised if in AT_LEAST; None for 30 and 62
+    formula: Optional[Callable]  # raised if Req 01 says so; None: 30 and 62
     top: int                     # highest value taken
     chosen_by: Optional[tuple]   # values of byte 46; None: not shared
     shown: dict                  # stored number to the value shown
 
 
-def raise_formula(controller, formula):
-    """Return the formula, "raised to at least" a number if Req 01 says so."""
-    if controller not in AT_LEAST:
+def raise_formula(formula, least):
+    """Return the formula, "raised to at least" a number if there is one."""
+    if least is None:
         return formula
-    return lambda v: max(formula(v), AT_LEAST[controller])
+    return lambda v: max(formula(v), least)
 
 
 def invert(formula, top):
@@ -91,28 +48,25 @@ def invert(formula, top):
     return {formula(value): value for value in range(top, -1, -1)}
 
 
-def read_pairs(pairs, formula, top, chosen_by):
+def read_pairs(pairs, formula, top, chosen_by, at_least):
     """Yield (controller, rule) for each pair c>b of a row."""
     for pair in pairs.split():
         controller, places = pair.split('>')
         field = tuple(int(place) for place in places.split(','))
-        raised = raise_formula(int(controller), formula)
+        raised = raise_formula(formula, at_least.get(int(controller)))
         yield int(controller), Rule(field, raised, top, chosen_by,
                                     invert(raised, top))
 
 
-def read_page():
-    """Return the rules of all controllers, in the page's order."""
+def read_page(own, shared, at_least):
+    """Return the rules of all controllers of a page, in its order."""
     table = {}
-    for pairs, formula, top in OWN:
-        table.update(read_pairs(pairs, formula, top, None))
-    for chosen_by, row in SHARED:
+    for pairs, formula, top in own:
+        table.update(read_pairs(pairs, formula, top, None, at_least))
+    for chosen_by, row in shared:
         for pairs, formula in row:
-            table.update(read_pairs(pairs, formula, TOP, chosen_by))
+            table.update(read_pairs(pairs, formula, TOP, chosen_by, at_least))
     return table
-
-
-TABLE = read_page()  # "These 49 controllers are all."
 
 
 def split(data: bytes) -> bytes:
@@ -175,9 +129,9 @@ def show_part(controller, stored):
     return m >> 7 if controller == 30 else m & 0x7F
 
 
-def scale(controller: int, value: int) -> tuple:
+def scale(kind, controller: int, value: int) -> tuple:
     """Return ('value', the controller's number) or ('refused', 17 or 18)."""
-    rule = TABLE.get(controller)
+    rule = kind.table.get(controller)
     # "A controller not in the table or above 127, and 30 and 62, which need
     # a stored number, are 17"
     if rule is None or rule.formula is None:
@@ -188,11 +142,11 @@ def scale(controller: int, value: int) -> tuple:
     return 'value', rule.formula(value)
 
 
-def apply(controller: int, value: int, edit: bytearray) -> int:
+def apply(kind, controller: int, value: int, edit: bytearray) -> int:
     """Change the edit buffer and return 3, or return 30, 17, 18 or 19."""
-    if len(edit) < EDIT_LENGTH:
+    if len(edit) < kind.size:
         return TOO_SHORT
-    rule = TABLE.get(controller)
+    rule = kind.table.get(controller)
     if rule is None:
         return UNKNOWN
     if value > rule.top:
@@ -208,12 +162,12 @@ def apply(controller: int, value: int, edit: bytearray) -> int:
     return APPLIED
 
 
-def back(controller: int, edit: bytes) -> tuple:
+def back(kind, controller: int, edit: bytes) -> tuple:
     """Return ('value', the value shown) or ('refused', 30, 17, 19 or 40)."""
     # "Tests: 30, 17, 19, 40."
-    if len(edit) < EDIT_LENGTH:
+    if len(edit) < kind.size:
         return 'refused', TOO_SHORT
-    rule = TABLE.get(controller)
+    rule = kind.table.get(controller)
     if rule is None:
         return 'refused', UNKNOWN
     if not is_selected(rule, edit):

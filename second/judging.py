@@ -1,11 +1,12 @@
 """Parts of scripts: every form, right and wrong.
 
-A part is given hand, which hands a message over: whole, or on a socket.
+A part is given the kind of the box, or a script that leaves it, and hand,
+which hands a message over: whole, or on a socket.
 """
 
-from box import ALL, EDIT, HEADER, PROGRAM
-from messages import (HALVES, changed, dump, dumps, forms, identity, noise,
-                      request, resized, wave, waves)
+from kinds import ALL, EDIT, PROGRAM, others
+from messages import (changed, dump, dumps, forms, identity, noise, request,
+                      resized, wave, waves)
 from script import REVISION
 
 # commands that put one setting out of its range
@@ -15,41 +16,41 @@ WRONG_SETTINGS = (
 )
 
 
-def show(hand):
+def show(kind, hand):
     """Ask for all of memory."""
-    hand(request(ALL))
-    hand(request(EDIT))
+    hand(request(kind, ALL))
+    hand(request(kind, EDIT))
 
 
-def add_dumps(hand):
+def add_dumps(kind, hand):
     """Good dumps stored, and requested back."""
     for program in (0, 1, 0x10, 0x22, 0x23):
-        hand(dump(PROGRAM, wave(program + 1, HALVES), program))
-        hand(request(PROGRAM, program))
-        hand(request(EDIT))
-    hand(dump(PROGRAM, noise(1, HALVES), 0x23))
-    hand(request(PROGRAM, 0x23))
+        hand(dump(kind, PROGRAM, wave(program + 1, kind.halves), program))
+        hand(request(kind, PROGRAM, program))
+        hand(request(kind, EDIT))
+    hand(dump(kind, PROGRAM, noise(1, kind.halves), 0x23))
+    hand(request(kind, PROGRAM, 0x23))
     # equal bytes are stored again
-    for data in (wave(9, HALVES), noise(2, HALVES), noise(2, HALVES)):
-        hand(dump(EDIT, data))
-        show(hand)
+    for data in (wave(9, kind.halves), *(noise(2, kind.halves),) * 2):
+        hand(dump(kind, EDIT, data))
+        show(kind, hand)
     for seed in (1, 2):
-        hand(dump(ALL, waves(seed)))
-        show(hand)
-        hand(request(PROGRAM, seed))
+        hand(dump(kind, ALL, waves(kind, seed)))
+        show(kind, hand)
+        hand(request(kind, PROGRAM, seed))
 
 
-def add_programs(hand):
+def add_programs(kind, hand):
     """Programs above 0x23, in requests and in dumps."""
     for program in (0x24, 0x7F):
-        hand(request(PROGRAM, program))
-        hand(dump(PROGRAM, wave(7, HALVES), program))
-        show(hand)
+        hand(request(kind, PROGRAM, program))
+        hand(dump(kind, PROGRAM, wave(7, kind.halves), program))
+        show(kind, hand)
 
 
-def add_halves(hand, step):
+def add_halves(kind, hand, step):
     """One bad half byte in a dump, then its request; a good one last."""
-    for given, asked in dumps(3):
+    for given, asked in dumps(kind, 3):
         last = len(given) - 2
         first = 9 if given[6] == PROGRAM else 8  # after "pp vv", or "vv"
         for place in (*range(first, last, step), last):
@@ -60,46 +61,58 @@ def add_halves(hand, step):
         hand(asked)
 
 
-def add_versions(hand):
+def add_versions(kind, hand):
     """Versions other than 0."""
     for version in (1, 0x7F):
-        for given, asked in dumps(4, version):
+        for given, asked in dumps(kind, 4, version):
             hand(given)
             hand(asked)
 
 
-def add_kinds(hand):
+def add_unknown(kind, hand):
     """Opcodes and types that are not in the table."""
-    for message in forms(5):
+    for message in forms(kind, 5):
         for place, byte in ((5, 2), (5, 0x7F), (6, 3), (6, 0x7F)):
             hand(changed(message, place, byte))
-    show(hand)
+    show(kind, hand)
 
 
-def add_headers(hand):
+def add_headers(kind, hand):
     """Each byte of the header changed in turn."""
-    for message in forms(6):
-        for place, byte in enumerate(HEADER):
+    for message in forms(kind, 6):
+        for place, byte in enumerate(kind.header):
             for other in (byte ^ 1, byte ^ 0x40, 0x7E):
                 hand(changed(message, place, other))
-    show(hand)
+    show(kind, hand)
 
 
-def add_orders(hand):
+def add_others(kind, hand):
+    """Another unit's forms, and a dump with one unit's header only."""
+    for other in others(kind):
+        for message, own in zip(forms(other, 7), forms(kind, 7)):
+            hand(message)                                # 11, or 10
+            hand(changed(own, 4, other.device))          # 11
+        for given, _ in dumps(other, 7):
+            hand(changed(given, 4, kind.device))         # 13, or 10
+    hand(request(kind, EDIT))
+
+
+def add_orders(kind, hand):
     """Several faults at once: the first number in the order wins."""
-    bad = changed(wave(8, HALVES), 70, 0x10)
-    worst = dump(PROGRAM, bad, 0x24, version=1)
+    bad = changed(wave(8, kind.halves), 70, 0x10)
+    worst = dump(kind, PROGRAM, bad, 0x24, version=1)
+    not_ours = others(kind)[0].device
     # "A finished SysEx is tested 10, 11, 12, 13, 14, 15, 16"
     for message in (
-            changed(changed(resized(worst, 20), 4, 2), 6, 3),  # 11
-            changed(resized(worst, 20), 6, 3),                 # 12
-            resized(worst, 153),                               # 13
-            resized(request(PROGRAM, 0x24), 10),               # 13
-            worst,                                             # 14
-            dump(PROGRAM, bad, 0x23, version=1),               # 15
-            dump(EDIT, bad, version=0x7F)):                    # 15
+            changed(changed(resized(worst, 20), 4, not_ours), 6, 3),  # 11
+            changed(resized(worst, 20), 6, 3),                        # 12
+            resized(worst, len(worst) - 1),                           # 13
+            resized(request(kind, PROGRAM, 0x24), 10),                # 13
+            worst,                                                    # 14
+            dump(kind, PROGRAM, bad, 0x23, version=1),                # 15
+            dump(kind, EDIT, bad, version=0x7F)):                     # 15
         hand(message)
-    show(hand)
+    show(kind, hand)
 
 
 def add_identities(script, hand, settings):
@@ -135,13 +148,15 @@ def wrong_settings(script, hand):
 
 def add_forms(script, hand, step):
     """Every form, right and wrong; a bad half byte every step places."""
-    add_dumps(hand)
-    add_programs(hand)
-    add_halves(hand, step)
-    add_versions(hand)
-    add_kinds(hand)
-    add_headers(hand)
-    add_orders(hand)
+    kind = script.kind
+    add_dumps(kind, hand)
+    add_programs(kind, hand)
+    add_halves(kind, hand, step)
+    add_versions(kind, hand)
+    add_unknown(kind, hand)
+    add_headers(kind, hand)
+    add_others(kind, hand)
+    add_orders(kind, hand)
     add_identities(script, hand,
                    ((0, 0), (0, 1), (9, 0), (15, 1), (15, 0)))
     add_revisions(script, hand)

@@ -2,54 +2,78 @@
 
 from itertools import product
 
-from box import (ALL, EDIT, EDIT_START, LEAST, LONGEST, MEMORY,
-                 MEMORY_LENGTH, MOST_STORED, RECEIVE, REPLY, START)
-from controllers import SELECTOR, TABLE
+from box import MEMORY, RECEIVE, REPLY
+from controllers import SELECTOR
 from judging import wrong_settings
-from messages import HALVES, dump, edit_with, identity, noise, request, wave
+from kinds import ALL, EDIT, EVERY_CONTROLLER, KINDS, START
+from messages import dump, edit_with, identity, noise, request, wave
 from player import MEMORY_ROOM, MESSAGE_ROOM, ROOMS
 from script import Script
+from switched import (NO_KINDS, add_no_kinds, add_other_buffers,
+                      add_switched)
 
-FULL = {'stored': MOST_STORED, 'inside': 1}
 HOLDING = {'running': 0xB0, 'held': 1}
+# Counts of stored bytes around the limit of each kind, and between them.
+COUNTS = (5500, *(kind.most_stored + more
+                  for kind in KINDS for more in (-1, 0, 1)))
 
-# Receivers that are sound, at their borders.
-SOUND = (
-    {}, {'stored': 1, 'inside': 1}, {'stored': MOST_STORED - 1, 'inside': 1},
-    FULL, {**FULL, 'over': 1},
-    *({'running': status} for status in (0x80, 0xB0, 0xC0, 0xDF, 0xEF)),
-    *({'running': status, 'held': 1, 'waiting': byte}
-      for status in (0x80, 0xBF, 0xE0, 0xEF) for byte in (0, 0x7F)),
-)
-# Receivers that are not, in every way.
-UNSOUND = (
-    # "its stored count is 0 to 5,192"
-    *({'stored': count, 'inside': 1} for count in (5193, 0x8001, 0xFFFF)),
-    # "at least 1 exactly when a SysEx is open"
-    {'inside': 1}, {'stored': 1}, {'stored': 0x100}, {'stored': MOST_STORED},
-    # a flag is 0 or 1
-    *({**sound, flag: value} for value in (2, 0xFF) for sound, flag in (
-        (FULL, 'inside'), (FULL, 'over'), (HOLDING, 'held'),
-        ({}, 'inside'), ({}, 'over'), ({}, 'held'))),
-    # "running status is none or 80 to EF"
-    *({'running': status} for status in (1, 0x7F, 0xF0, 0xF7, 0xF8, 0xFF)),
-    # "and none while one is open"
-    {**FULL, 'running': 0xB0}, {'stored': 1, 'inside': 1, 'running': 0x80},
-    # "a waiting data byte is at most 0x7F"
-    {**HOLDING, 'waiting': 0x80}, {**HOLDING, 'waiting': 0xFF},
-    # "and stands only under a two-byte status"
-    *({'running': status, 'held': 1}
-      for status in (0, 0xC0, 0xCF, 0xD0, 0xDF)),
-    {**FULL, 'held': 1},
-    # where none waits its field is 0
-    {'waiting': 1}, {'running': 0xB0, 'waiting': 0x7F},
-    {**FULL, 'waiting': 1},
-    # "too long is marked only on an open SysEx with 5,192 stored"
-    {'over': 1}, {'running': 0xB0, 'over': 1},
-    {'stored': MOST_STORED, 'over': 1},
-    *({'stored': count, 'inside': 1, 'over': 1}
-      for count in (1, MOST_STORED - 1)),
-)
+
+def full(kind):
+    """Return a receiver with as much stored as can be."""
+    return {'stored': kind.most_stored, 'inside': 1}
+
+
+def sound(kind):
+    """Return receivers that are sound, at their borders."""
+    return (
+        {}, {'stored': 1, 'inside': 1},
+        *({'stored': count, 'inside': 1} for count in COUNTS
+          if count <= kind.most_stored),
+        {**full(kind), 'over': 1},
+        *({'running': status} for status in (0x80, 0xB0, 0xC0, 0xDF, 0xEF)),
+        *({'running': status, 'held': 1, 'waiting': byte}
+          for status in (0x80, 0xBF, 0xE0, 0xEF) for byte in (0, 0x7F)),
+    )
+
+
+def unsound(kind):
+    """Return receivers that are not sound, in every way."""
+    filled = full(kind)
+    return (
+        # "its stored count is 0 to 5,192"; Req 04: "the sound receiver's
+        # limits use the kind's own lengths"
+        *({'stored': count, 'inside': 1} for count in (
+            *COUNTS, 0x8001, 0xFFFF) if count > kind.most_stored),
+        # "at least 1 exactly when a SysEx is open"
+        {'inside': 1}, {'stored': 1}, {'stored': 0x100},
+        {'stored': kind.most_stored},
+        # a flag is 0 or 1
+        *({**parts, flag: value} for value in (2, 0xFF) for parts, flag in (
+            (filled, 'inside'), (filled, 'over'), (HOLDING, 'held'),
+            ({}, 'inside'), ({}, 'over'), ({}, 'held'))),
+        # "running status is none or 80 to EF"
+        *({'running': status}
+          for status in (1, 0x7F, 0xF0, 0xF7, 0xF8, 0xFF)),
+        # "and none while one is open"
+        {**filled, 'running': 0xB0},
+        {'stored': 1, 'inside': 1, 'running': 0x80},
+        # "a waiting data byte is at most 0x7F"
+        {**HOLDING, 'waiting': 0x80}, {**HOLDING, 'waiting': 0xFF},
+        # "and stands only under a two-byte status"
+        *({'running': status, 'held': 1}
+          for status in (0, 0xC0, 0xCF, 0xD0, 0xDF)),
+        {**filled, 'held': 1},
+        # where none waits its field is 0
+        {'waiting': 1}, {'running': 0xB0, 'waiting': 0x7F},
+        {**filled, 'waiting': 1},
+        # "too long is marked only on an open SysEx with 5,192 stored"
+        {'over': 1}, {'running': 0xB0, 'over': 1},
+        {'stored': kind.most_stored, 'over': 1},
+        *({'stored': count, 'inside': 1, 'over': 1}
+          for count in (1, *COUNTS) if count != kind.most_stored),
+    )
+
+
 # Numbers that are no socket's; some would be one's if they were cut.
 NO_SOCKETS = (2, 3, 0xFF, 1 << 24, (1 << 24) + 1, 0x80000000, 0xFF0000FF)
 # Controllers that would be in the table if they were cut, and others.
@@ -62,7 +86,8 @@ VALUES = (*range(8), 15, 16, 21, 22, 27, 28, 63, 64, 126, 127, 128, 255, 256,
 
 def add_beyond(script):
     """Bytes beyond what is lent of memory, not all zero."""
-    for place in range(MEMORY_LENGTH, MEMORY_ROOM):
+    most = max(kind.memory_length for kind in KINDS)
+    for place in range(most, MEMORY_ROOM):
         script.poke(place, place % 256)
 
 
@@ -78,7 +103,7 @@ def add_odd(script):
     script.add('W')
     script.add('R', 0xFE, 0xFF, 0x55)       # revision byte 2
     script.poke(MEMORY_ROOM + 9, 0x77)
-    script.lend(7, LEAST[REPLY])
+    script.lend(7, script.kind.least[REPLY])
     for part in (7, 8 + 4, 0xFF):           # no part, running, no part
         script.add('E', part, 3, 0xB0)
     script.send_hex(1, '0D 7F F7')
@@ -96,10 +121,12 @@ def add_receivers(script, socket, receivers, text):
 
 def add_stale(script, socket):
     """A SysEx over what stands in the receive buffer."""
-    script.send(socket, edit_with({46: 2}))
-    script.send(socket, request(EDIT))
+    kind = script.kind
+    given = edit_with(kind, {46: 2})
+    script.send(socket, given)
+    script.send(socket, request(kind, EDIT))
     # the request's bytes in front of the dump's, shorter and longer
-    for count in (1, 2, 7, 8, 152, 153, MOST_STORED):
+    for count in (1, 2, 7, 8, len(given) - 1, len(given), kind.most_stored):
         script.receiver(socket, stored=count, inside=1)
         script.send_hex(socket, 'F7')
 
@@ -117,37 +144,43 @@ def add_lengths(script, buffer, lengths):
 
 
 def lengths_of(buffer):
-    """Return lengths around the least that a buffer must have."""
-    least = LEAST[buffer]
-    return 0, 1, least - 1, least, least + 1, ROOMS[buffer], 65535
+    """Return lengths around the least that each kind wants of a buffer."""
+    around = (kind.least[buffer] + more
+              for kind in KINDS for more in (-1, 0, 1))
+    return 0, 1, *around, ROOMS[buffer], 65535
 
 
 def add_long_buffers(script, asked):
     """A full receive buffer, a dump and a request, with more lent."""
     for buffer, room in enumerate(ROOMS):
         script.lend(buffer, room)
+    kind = script.kind
     for socket in (0, 1):
         # "At most 5,192 are stored": a longer buffer does not raise it
-        script.receiver(socket, **FULL)
+        script.receiver(socket, **full(kind))
         script.send_hex(socket, '05 06 F7')
-        script.feed(socket, dump(EDIT, noise(socket, HALVES)))
+        script.feed(socket, dump(kind, EDIT, noise(socket, kind.halves)))
         script.feed(socket, asked)
     for buffer in range(len(ROOMS)):
         script.lend_back(buffer)
 
 
 def add_order(script):
-    """Every choice of reasons for 30, 31 and 32 at once."""
-    choices = product((False, True), repeat=5)
-    for short, wrong_socket, unsound, wrong_setting, buffer in choices:
+    """Every choice of reasons for 32, 30, 31 and 32 at once."""
+    kind = script.kind
+    choices = product((False, True), repeat=6)
+    for no_kind, short, wrong_socket, wrong, wrong_setting, buffer in choices:
         own = 1 if wrong_socket else 0
         tested = RECEIVE[own] if buffer else MEMORY
+        if no_kind:
+            script.bring(NO_KINDS[0])
         if short:
-            script.lend(tested, LEAST[tested] - 1)
+            script.lend(tested, kind.least[tested] - 1)
         if wrong_setting:
             script.settings(16, 0)
-        script.receiver(own, **UNSOUND[0] if unsound else FULL)
+        script.receiver(own, **unsound(kind)[0] if wrong else full(kind))
         script.send_hex(2 if wrong_socket else 0, 'F7')
+        script.bring_back()
         script.lend_back(tested)
         script.settings(0, 0)
     for socket in (0, 1):
@@ -158,7 +191,7 @@ def add_other(script):
     """What the other socket has lent does not matter."""
     for socket, other in ((0, 1), (1, 0)):
         script.lend(RECEIVE[other], 0)
-        script.receiver(other, **UNSOUND[-1])
+        script.receiver(other, **unsound(script.kind)[-1])
         script.send(socket, identity(0x7F))
         script.whole(identity(0x7F))
         script.lend_back(RECEIVE[other])
@@ -166,15 +199,19 @@ def add_other(script):
 
 
 def add_whole_order(script):
-    """Every choice of reasons for 30, 32, 10 and 11 at once."""
-    choices = product((MEMORY, REPLY), *((False, True),) * 4)
-    for buffer, short, wrong_setting, long, unframed in choices:
+    """Every choice of reasons for 32, 30, 32, 10 and 11 at once."""
+    kind = script.kind
+    choices = product((MEMORY, REPLY), *((False, True),) * 5)
+    for buffer, no_kind, short, wrong_setting, long, unframed in choices:
+        if no_kind:
+            script.bring(NO_KINDS[0])
         if short:
-            script.lend(buffer, LEAST[buffer] - 1)
+            script.lend(buffer, kind.least[buffer] - 1)
         if wrong_setting:
             script.revision(3, 0x80)
-        message = b'\xF0' + wave(3, LONGEST if long else 20) + b'\xF7'
+        message = b'\xF0' + wave(3, kind.longest if long else 20) + b'\xF7'
         script.whole(message[1 if unframed else 0:])
+        script.bring_back()
         script.lend_back(buffer)
         script.settings_back()
 
@@ -220,13 +257,13 @@ def add_scaling(script, controllers, values):
 def fill(script, field, number):
     """Write a number into a field of the edit buffer."""
     for place in field:
-        script.poke(EDIT_START + place, number % 256)
+        script.poke(script.kind.edit_start + place, number % 256)
         number //= 256
 
 
 def select(script, setting):
     """Set byte 46."""
-    script.poke(EDIT_START + SELECTOR, setting)
+    script.poke(script.kind.edit_start + SELECTOR, setting)
 
 
 def numbers_for(rule):
@@ -244,7 +281,7 @@ def numbers_for(rule):
 
 def add_back(script, controller):
     """What a controller shows of several numbers, under several effects."""
-    rule = TABLE[controller]
+    rule = script.kind.table[controller]
     script.controller(controller)
     for setting in (*(rule.chosen_by or (0,)), 6):
         select(script, setting)
@@ -254,15 +291,30 @@ def add_back(script, controller):
 
 
 def add_back_order(script):
-    """Every choice of reasons for 30, 17, 19 and 40 at once."""
-    choices = product((False, True), repeat=4)
-    for short, unknown, unselected, no_value in choices:
+    """Every choice of reasons for 32, 30, 17, 19 and 40 at once."""
+    # the last one wants an effect, where the kind has any that does
+    *_, (controller, rule) = script.kind.table.items()
+    choices = product((False, True), repeat=5)
+    for no_kind, short, unknown, unselected, no_value in choices:
+        if no_kind:
+            script.bring(NO_KINDS[0])
         if short:
-            script.lend(MEMORY, LEAST[MEMORY] - 1)
-        select(script, 1 if unselected else 2)
-        fill(script, (48,), 2 if no_value else 1)
-        script.back(65536 + 55 if unknown else 55)
+            script.lend(MEMORY, script.kind.memory_length - 1)
+        select(script, 6 if unselected else (rule.chosen_by or (0,))[0])
+        fill(script, rule.field, 0xFF if no_value else 1)
+        script.back(65536 + controller if unknown else controller)
+        script.bring_back()
         script.lend_back(MEMORY)
+
+
+def add_scale_order(script):
+    """Every choice of reasons for 32, 17 and 18 at once."""
+    for no_kind, unknown, high in product((False, True), repeat=3):
+        if no_kind:
+            script.bring(NO_KINDS[0])
+        script.controller(65536 + 12 if unknown else 12)
+        script.scale(28 if high else 15)
+        script.bring_back()
 
 
 def add_turned_away(script):
@@ -275,22 +327,34 @@ def add_turned_away(script):
     add_refused(script)
 
 
+def add_all(script):
+    """All parts, on a box of the script's kind."""
+    kind = script.kind
+    add_odd(script)
+    for socket in (0, 1):
+        add_receivers(script, socket, unsound(kind), 'F8 0D F7 F0 B0')
+        add_receivers(script, socket, sound(kind), 'F8 05 0D F7 B0')
+        add_stale(script, socket)
+    for buffer in range(len(ROOMS)):
+        add_lengths(script, buffer, lengths_of(buffer))
+    add_long_buffers(script, request(kind, ALL))
+    add_turned_away(script)
+    add_no_kinds(script, NO_KINDS)
+    add_other_buffers(script)
+    add_scaling(script, (*EVERY_CONTROLLER, *NO_CONTROLLERS), VALUES)
+    add_scale_order(script)
+    for controller in kind.table:
+        add_back(script, controller)
+    script.back(*EVERY_CONTROLLER, *NO_CONTROLLERS)
+    add_back_order(script)
+
+
 def make_lent():
     """Return the script of what is lent, scaled and shown back."""
     script = Script()
     add_beyond(script)
-    add_odd(script)
-    for socket in (0, 1):
-        add_receivers(script, socket, UNSOUND, 'F8 0D F7 F0 B0')
-        add_receivers(script, socket, SOUND, 'F8 05 0D F7 B0')
-        add_stale(script, socket)
-    for buffer in range(len(ROOMS)):
-        add_lengths(script, buffer, lengths_of(buffer))
-    add_long_buffers(script, request(ALL))
-    add_turned_away(script)
-    add_scaling(script, (*TABLE, *NO_CONTROLLERS), VALUES)
-    for controller in TABLE:
-        add_back(script, controller)
-    script.back(*NO_CONTROLLERS)
-    add_back_order(script)
+    for kind in KINDS:
+        script.become(kind)
+        add_all(script)
+    add_switched(script)
     return bytes(script.commands)

@@ -1,18 +1,22 @@
 """Write a stream for the listing program, or print its lines for a stream.
 
-python3 second/listing.py stream  writes the stream
-python3 second/listing.py lines   reads a stream and prints its lines
+python3 second/listing.py stream [KIND]  writes the stream
+python3 second/listing.py lines [KIND]   reads a stream and prints its lines
 
-The stream gives every number that a socket of that box can give, with long
-dumps, good and damaged, and with real-time bytes anywhere.
+KIND is pod or bass, and pod where it is not said. The stream gives every
+number that a socket of that box can give, with long dumps, good and damaged,
+with program changes, and with real-time bytes anywhere.
 """
 
 import sys
 from itertools import cycle
 
-from box import ALL, EDIT, EDIT_START, END_BYTE, PROGRAM, Box
-from controllers import EDIT_LENGTH, split
+from box import END_BYTE, Box
+from controllers import split
+from kinds import ALL, EDIT, PROGRAM, kind_told, others
 from messages import changed, dump, identity, request
+from player import rows_of
+from sockets import CHANGES
 
 REAL_TIME = bytes(range(0xF8, 0x100))  # "F8 to FF"
 NUMBERS = {1, 2, 3, 4, *range(10, 23)}
@@ -28,27 +32,28 @@ def halves(length, seed):
     return split(pattern(length, seed))
 
 
-def dumps():
+def dumps(kind):
     """Yield dumps of each type, good and damaged, and requests for them."""
-    one = dump(PROGRAM, halves(EDIT_LENGTH, 3), 0x23)
-    edit = dump(EDIT, halves(EDIT_LENGTH, 5))
-    every = dump(ALL, halves(EDIT_START, 7))
-    ask = request(ALL)
+    one = dump(kind, PROGRAM, halves(kind.size, 3), 0x23)
+    edit = dump(kind, EDIT, halves(kind.size, 5))
+    every = dump(kind, ALL, halves(kind.edit_start, 7))
+    ask = request(kind, ALL)
     for good, data in ((one, 9), (edit, 8), (every, 8)):
         # "a bad half byte in program 36 then leaves 35 new ones"
         yield from (changed(good, -2, 0x10), ask, good, ask)
         yield changed(good, data - 1, 1)       # 15
         yield changed(good, data, 0x7F)        # 16
         yield changed(good, 6, 3)              # 12
-        yield changed(good, 4, 2)              # 11
+        for other in others(kind):
+            yield changed(good, 4, other.device)  # 11
         yield good[:-2] + END_BYTE             # 13
     yield changed(one, 7, 0x24)                # 14
-    yield request(PROGRAM, 0x23)
-    yield request(PROGRAM, 0x24)
-    yield request(EDIT)
+    yield request(kind, PROGRAM, 0x23)
+    yield request(kind, PROGRAM, 0x24)
+    yield request(kind, EDIT)
 
 
-def moves():
+def moves(kind):
     """Yield every controller at some values, under each effect."""
     for effect in range(17):
         yield bytes((0xB0, 19, effect))
@@ -56,21 +61,25 @@ def moves():
             # running status: one status byte for the three moves
             yield bytes((0xB0, controller, 0, controller, 64,
                          controller, 127))
-    yield request(EDIT)
+    yield request(kind, EDIT)
 
 
-def others():
-    """Yield the rest: other channels and kinds, identity, cuts, too long."""
+def the_rest(kind):
+    """Yield other channels and statuses, identity, cuts, too long."""
     yield bytes((0xB1, 13, 1, 0xC0, 5, 0x90, 60, 1, 0xE0, 0, 64))
+    for status in (0xC0, 0xC1):
+        yield bytes((status, *CHANGES))
+        yield request(kind, EDIT)
     for channel in (0, 1, 15, 0x7F):
         yield identity(channel)
     for status in (0x80, 0xB0, 0xC0, 0xF0, 0xF1, 0xF6):
         yield bytes((0xF0, 1, 2, status))
     # running status is lost at F6, and the data bytes are skipped
     yield bytes((0xF7, 0xB0, 0xF6, 13, 1))
-    for count in (5191, 5192):
+    most = kind.most_stored
+    for count in (most - 1, most):
         yield b'\xF0' + bytes(count) + END_BYTE
-    yield b'\xF0' + bytes(5192) + bytes((0xB0, 13, 1))
+    yield b'\xF0' + bytes(most) + bytes((0xB0, 13, 1))
 
 
 def with_real_time(message, ticks):
@@ -80,17 +89,17 @@ def with_real_time(message, ticks):
     return b''.join(parts)
 
 
-def stream():
+def stream(kind):
     """Return the whole stream: each part plain, and with real-time bytes."""
-    messages = [*dumps(), *moves(), *others()]
+    messages = [*dumps(kind), *moves(kind), *the_rest(kind)]
     ticks = cycle(REAL_TIME)
     return b''.join(messages) + b''.join(
         with_real_time(message, ticks) for message in messages)
 
 
-def lines(data):
+def lines(kind, data):
     """Yield the fields of each line."""
-    box = Box()
+    box = Box(kind)
     yield 'at', 'number', 'reply'
     for at, byte in enumerate(data):
         number, length = box.take(0, byte)
@@ -99,14 +108,17 @@ def lines(data):
 
 
 def main():
-    """Do what the one argument says."""
-    if sys.argv[1] == 'stream':
-        data = stream()
-        shown = {fields[1] for fields in lines(data)} - {'number'}
-        assert shown == NUMBERS, f'missing: {NUMBERS - shown}'
+    """Do what the first argument says, for the kind that the rest tells."""
+    what, *words = sys.argv[1:]
+    kind = kind_told(words)
+    if what == 'stream':
+        data = stream(kind)
+        shown = {fields[1] for fields in lines(kind, data)} - {'number'}
+        amiss = shown ^ (NUMBERS & rows_of(kind))
+        assert not amiss, f'missing, or not to be there: {amiss}'
         sys.stdout.buffer.write(data)
     else:
-        for fields in lines(sys.stdin.buffer.read()):
+        for fields in lines(kind, sys.stdin.buffer.read()):
             print(*fields, sep='\t')
 
 

@@ -3,21 +3,19 @@
 from itertools import chain
 from random import Random
 
-from box import (ALL, DUMP, EDIT, END, END_BYTE, HEADER, PROGRAM, PROGRAMS,
-                 REQUEST, START)
+from box import END_BYTE
+from kinds import ALL, DUMP, EDIT, END, PROGRAM, REQUEST, START
 from player import wave
 
-HALVES = 144  # "144 data bytes"
-ALL_HALVES = PROGRAMS * HALVES  # "all programs dump, 5,184"
 SEGMENT = 48  # half bytes of an all programs dump that are one wave
 PAD = b'\x05'
 
 
-def waves(seed):
-    """Return half bytes of all programs, each program of three waves."""
+def waves(kind, seed):
+    """Return half bytes of all programs, three waves or more in each."""
     chance = Random(seed)
     return b''.join(wave(chance.randrange(16), SEGMENT)
-                    for _ in range(ALL_HALVES // SEGMENT))
+                    for _ in range(kind.all_halves // SEGMENT))
 
 
 def noise(seed, length):
@@ -31,39 +29,41 @@ def identity(channel):
     return bytes((START, 0x7E, channel, 6, 1, END))
 
 
-def request(kind, *named):
+def request(kind, typed, *named):
     """Return a request; only a program request names a program."""
-    return HEADER + bytes((REQUEST, kind, *named, END))
+    return kind.header + bytes((REQUEST, typed, *named, END))
 
 
-def dump(kind, data, *named, version=0):
+def dump(kind, typed, data, *named, version=0):
     """Return a dump; only a program dump names a program."""
-    return (HEADER + bytes((DUMP, kind, *named, version)) + data
+    return (kind.header + bytes((DUMP, typed, *named, version)) + data
             + END_BYTE)
 
 
-def dumps(seed, version=0):
+def dumps(kind, seed, version=0):
     """Return a dump of each type, each with its request."""
-    one, edit, every = wave(seed, HALVES), wave(seed + 1, HALVES), waves(seed)
+    one, edit = wave(seed, kind.halves), wave(seed + 1, kind.halves)
     return (
-        (dump(PROGRAM, one, 0x11, version=version), request(PROGRAM, 0x11)),
-        (dump(EDIT, edit, version=version), request(EDIT)),
-        (dump(ALL, every, version=version), request(ALL)),
+        (dump(kind, PROGRAM, one, 0x11, version=version),
+         request(kind, PROGRAM, 0x11)),
+        (dump(kind, EDIT, edit, version=version), request(kind, EDIT)),
+        (dump(kind, ALL, waves(kind, seed), version=version),
+         request(kind, ALL)),
     )
 
 
-def forms(seed):
+def forms(kind, seed):
     """Return the right messages of the six forms."""
     return tuple(chain.from_iterable(
-        (asked, given) for given, asked in dumps(seed)))
+        (asked, given) for given, asked in dumps(kind, seed)))
 
 
-def edit_with(places, seed=0):
+def edit_with(kind, places, seed=0):
     """Return an edit buffer dump with some bytes of the buffer given."""
-    data = bytearray(wave(seed, HALVES))
+    data = bytearray(wave(seed, kind.halves))
     for place, byte in places.items():
         data[2 * place:2 * place + 2] = (byte >> 4, byte & 0x0F)
-    return dump(EDIT, bytes(data))
+    return dump(kind, EDIT, bytes(data))
 
 
 def changed(message, place, byte):

@@ -1,7 +1,8 @@
 """The script of panel messages."""
 
-from box import EDIT, END, END_BYTE, LONGEST, START
+from box import END_BYTE
 from judging import add_forms, show, wrong_settings
+from kinds import EDIT, END, KINDS, START
 from messages import (PAD, changed, edit_with, forms, identity, request,
                       resized, wave)
 from player import MESSAGE_ROOM
@@ -11,14 +12,14 @@ from script import Script
 def add_lengths(script):
     """Every length from one past the right one down to 0."""
     # why: going down, a shorter message costs three commands
-    for message in (identity(0x7F), *forms(0)):
+    for message in (identity(0x7F), *forms(script.kind, 0)):
         for length in range(len(message) + 1, -1, -1):
             script.whole(resized(message, length))
 
 
 def add_frames(script):
     """Messages right but for their frame."""
-    for message in (identity(0x7F), *forms(1)):
+    for message in (identity(0x7F), *forms(script.kind, 1)):
         script.whole(message[1:])
         for byte in (0x70, 0xF1, END, 0xF8):
             script.whole(changed(message, 0, byte))
@@ -31,11 +32,11 @@ def add_frames(script):
 
 def add_middles(script):
     """A byte above 0x7F inside a message."""
-    for message in (identity(0x7F), *forms(2)):
+    for message in (identity(0x7F), *forms(script.kind, 2)):
         for place in (1, len(message) // 2, len(message) - 2):
             for byte in (0x80, START, END, 0xF8):
                 script.whole(changed(message, place, byte))
-    show(script.whole)
+    show(script.kind, script.whole)
 
 
 def add_shortest(script):
@@ -49,8 +50,9 @@ def add_shortest(script):
 
 
 def add_longest(script):
-    """Messages of 5,193 bytes and over."""
-    for length in (LONGEST, LONGEST + 1, LONGEST + 2, MESSAGE_ROOM):
+    """Messages as long as the longest of each kind, and over."""
+    borders = (kind.longest + more for kind in KINDS for more in range(3))
+    for length in (*borders, MESSAGE_ROOM):
         framed = bytes((START,)) + wave(length, length - 2) + END_BYTE
         for message in (framed, changed(framed, 9, 0xF8),
                         changed(framed, 0, 5), framed[:-1] + PAD):
@@ -59,8 +61,9 @@ def add_longest(script):
 
 def add_settings(script):
     """Settings out of range: 32 before 10 and 11."""
-    messages = (identity(0x7F), request(EDIT), edit_with({}), b'',
-                request(EDIT)[:-1], wave(0, LONGEST + 1))
+    kind = script.kind
+    messages = (identity(0x7F), request(kind, EDIT), edit_with(kind, {}),
+                b'', request(kind, EDIT)[:-1], wave(0, kind.longest + 1))
     for _ in wrong_settings(script, script.whole):
         for message in messages:
             script.whole(message)
@@ -71,12 +74,13 @@ def add_settings(script):
 def make_whole():
     """Return the script of panel messages."""
     script = Script()
-    hand = script.whole
-    add_lengths(script)
-    add_frames(script)
-    add_forms(script, hand, 97)
-    add_middles(script)
-    add_shortest(script)
-    add_longest(script)
-    add_settings(script)
+    for kind in KINDS:
+        script.become(kind)
+        add_lengths(script)
+        add_frames(script)
+        add_forms(script, script.whole, 97)
+        add_middles(script)
+        add_shortest(script)
+        add_longest(script)
+        add_settings(script)
     return bytes(script.commands)

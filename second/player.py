@@ -4,11 +4,12 @@ from collections import Counter
 from operator import mul
 
 from box import REPLIED, TAKEN, Box
-from controllers import scale
+from controllers import NOT_SELECTED
+from kinds import KINDS, POD
 
 MESSAGE_ROOM = 8192  # "a message buffer of 8,192 bytes"
-MEMORY_ROOM = 2700   # "memory of 2,700 bytes"
-BUFFER_ROOM = 5220   # receive and reply buffers "of 5,220 bytes"
+MEMORY_ROOM = 3000   # "memory of 3,000 bytes"
+BUFFER_ROOM = 5800   # receive and reply buffers "of 5,800 bytes"
 ROOMS = (MEMORY_ROOM, BUFFER_ROOM, BUFFER_ROOM, BUFFER_ROOM)
 REFUSED = 65536      # "the value, or 65,536 + the refusal number"
 VALUE = 'value'      # stands for all values among the numbers given
@@ -87,16 +88,19 @@ class Player:
 
     def __init__(self):
         self.message = Message()
-        self.box = Box(MEMORY_ROOM, BUFFER_ROOM)
+        # lent at first "as a POD's", and "the kind's number is 0"
+        self.box = Box(POD, MEMORY_ROOM, BUFFER_ROOM)
         # "of memory, of the reply buffer, of receive buffers 0 and 1"
         self.digests = [Digest(buffer) for buffer in (
             self.box.memory, self.box.reply, *self.box.receive)]
         self.controller = 0
         self.calls = 0
-        self.given = Counter()  # how many calls gave (letter, number)
+        # how many calls gave (the kind's number, letter, number)
+        self.given = Counter()
         self.changing = {'Y': self.poke, 'C': self.set_channel,
                          'R': self.set_revision, 'Z': self.lend,
-                         'E': self.set_receiver, 'N': self.set_controller}
+                         'E': self.set_receiver, 'N': self.set_controller,
+                         'T': self.set_kind}
         self.calling = {'W': self.whole, 'S': self.take, 'M': self.feed,
                         'K': self.scale, 'D': self.back}
 
@@ -112,7 +116,7 @@ class Player:
         return ()
 
     def poke(self, a, b, v):
-        """Do Y: "memory byte n % 2,700 is v"."""
+        """Do Y: "memory byte n % 3,000 is v"."""
         self.box.memory[(a + 256 * b) % MEMORY_ROOM] = v
 
     def set_channel(self, a, b, _):
@@ -142,6 +146,10 @@ class Player:
         """Do N: "(65,536 x itself + n) % 2^32"."""
         self.controller = (65536 * self.controller + a + 256 * b) % 2**32
 
+    def set_kind(self, a, b, v):
+        """Do T: "the kind's number is n + 2^24 x v"."""
+        self.box.kind_number = a + 256 * b + (v << 24)
+
     def whole(self, *_):
         """Do W."""
         return self.lines('W', *self.box.whole(self.message.content()))
@@ -159,7 +167,7 @@ class Player:
     def scale(self, a, b, v):
         """Do K: "for value n + 2^24 x v"."""
         value = a + 256 * b + (v << 24)
-        return self.asked('K', *scale(self.controller, value))
+        return self.asked('K', *self.box.scale(self.controller, value))
 
     def back(self, *_):
         """Do D."""
@@ -167,7 +175,7 @@ class Player:
 
     def count(self, letter, number):
         """Count a call and what it gave; return its count."""
-        self.given[letter, number] += 1
+        self.given[self.box.kind_number, letter, number] += 1
         self.calls += 1
         return self.calls - 1
 
@@ -185,9 +193,9 @@ class Player:
         # "a further line has the letter r, a tab and the reply's bytes"
         return line, tabbed('r', self.box.reply[:length].hex())
 
-    def asked(self, letter, kind, number):
+    def asked(self, letter, outcome, number):
         """Return the lines of a K or a D."""
-        if kind == VALUE:
+        if outcome == VALUE:
             return (tabbed(letter, self.count(letter, VALUE), number),)
         at = self.count(letter, number)
         return (tabbed(letter, at, REFUSED + number),)
@@ -220,9 +228,15 @@ def play(script):
     return lines, player
 
 
+def rows_of(kind):
+    """Return the rows that a kind of box can give."""
+    return {*ROWS} - (set() if kind.has_effects else {NOT_SELECTED})
+
+
 def tally(given):
-    """Return how many calls gave each row, from counts by letter too."""
-    rows = Counter()
-    for (_, number), calls in given.items():
-        rows[number] += calls
-    return rows
+    """Return a Counter of rows by each kind, and one by no kind behind."""
+    counts = {kind.number: Counter() for kind in KINDS}
+    by_none = Counter()
+    for (kind, _, number), calls in given.items():
+        counts.get(kind, by_none)[number] += calls
+    return *counts.values(), by_none

@@ -7,7 +7,8 @@ python3 second/replay.py lent       writes the script of what is lent, scaled
                                     and shown back
 python3 second/replay.py answers    reads a script and prints its lines
 python3 second/replay.py histogram  reads a script and prints, for each number
-                                    of the table, how many calls gave it
+                                    of the table, how many calls of each kind
+                                    gave it
 
 Scripts and lines are in the form of REPLAY.md; the answers are box.py's.
 """
@@ -15,12 +16,13 @@ Scripts and lines are in the form of REPLAY.md; the answers are box.py's.
 import sys
 
 from brief import make_brief
+from kinds import KINDS
 from lent import make_lent
 from panel import make_whole
-from player import ROWS, VALUE, play, tabbed, tally
+from player import ROWS, VALUE, play, rows_of, tabbed, tally
 from sockets import make_sockets
 
-# Each script, and the rows that it does not show.
+# Each script, and the rows that it does not show of either kind.
 SCRIPTS = {
     'brief': (make_brief, set()),
     'whole': (make_whole, {0, 3, 4, *range(17, 22), 30, 31, 40, VALUE}),
@@ -34,15 +36,21 @@ def make(name):
     maker, others = SCRIPTS[name]
     script = maker()
     _, player = play(script)
-    amiss = {*tally(player.given)} ^ {*ROWS} ^ others
-    assert not amiss, f'{name}: not shown, or not to be shown: {amiss}'
+    for kind, rows in zip(KINDS, tally(player.given)):
+        amiss = {*rows} ^ (rows_of(kind) - others)
+        assert not amiss, (f'{name}, {kind.word}: not shown, or not to be '
+                           f'shown: {amiss}')
     return script
 
 
 def histogram(given):
-    """Return a line for each number of the table, and one for values."""
-    rows = tally(given)
-    return [tabbed(row, rows[row]) for row in ROWS]
+    """Return a line for each number of the table, and one for values.
+
+    The fields are of each kind, and of the numbers that are no kind's.
+    """
+    counts = tally(given)
+    return [tabbed('number', *(kind.word for kind in KINDS), 'neither'),
+            *(tabbed(row, *(rows[row] for rows in counts)) for row in ROWS)]
 
 
 def main():

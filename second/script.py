@@ -1,6 +1,7 @@
 """Write a script in the form of REPLAY.md."""
 
-from box import LEAST, Settings
+from box import Settings
+from kinds import POD
 from messages import SEGMENT
 from player import PARTS, Message, wave
 
@@ -9,11 +10,14 @@ REVISION = bytes(Settings().revision)
 
 
 class Script:
-    """The commands written so far, and the message that they leave."""
+    """The commands written so far; the message and the kind they leave."""
 
-    def __init__(self):
+    def __init__(self, kind=POD):
         self.commands = bytearray()
         self.message = Message()
+        self.kind = POD  # at first the kind's number and what is lent are
+        if kind is not POD:
+            self.become(kind)
 
     def add(self, op, a=0, b=0, v=0):
         """Write one command."""
@@ -75,8 +79,23 @@ class Script:
         self.add('Z', length % 256, length // 256, buffer)
 
     def lend_back(self, buffer):
-        """Lend as much of a buffer as at first."""
-        self.lend(buffer, LEAST[buffer])
+        """Lend as much of a buffer as the kind wants."""
+        self.lend(buffer, self.kind.least[buffer])
+
+    def bring(self, number):
+        """Bring this number n + 2^24 x v as the kind's from now on."""
+        self.add('T', number % 256, number // 256 % 256, number >> 24)
+
+    def bring_back(self):
+        """Bring the number of the kind that the box is."""
+        self.bring(self.kind.number)
+
+    def become(self, kind):
+        """Make the box another kind: its number, and what it wants lent."""
+        self.kind = kind
+        self.bring_back()
+        for buffer in range(len(kind.least)):
+            self.lend_back(buffer)
 
     def receiver(self, socket, stored=0, **parts):
         """Set all of a receiver; a part that is not named is 0."""

@@ -1,4 +1,4 @@
-"""Print what the program sheet should print, by document 01 and Req 01.
+"""Print what the program sheet should print: a POD's, as Req 03 asks.
 
 The headings are those of the table in docs/DECISIONS.md; each must name a
 column of Req 03, by its controllers, its rule and its least number.
@@ -7,7 +7,8 @@ column of Req 03, by its controllers, its rule and its least number.
 import re
 from pathlib import Path
 
-import controllers
+from controllers import TOP, scale
+from kinds import POD
 
 DECISIONS = Path(__file__).parent.parent / 'docs' / 'DECISIONS.md'
 # Req 03: "the six longer rules (threshold, times 50, 256/104, 256/42, times
@@ -25,7 +26,7 @@ COLUMNS = (
 def head(column, rule):
     """Return the heading of a column."""
     # "minimums of Req 01 included"
-    least = controllers.AT_LEAST.get(column[0])
+    least = POD.at_least.get(column[0])
     return (f'{", ".join(map(str, column))}: {rule}'
             + (f', at least {least}' if least else ''))
 
@@ -40,9 +41,9 @@ def read_headings():
 
 def number(column, value):
     """Return the one number that all controllers of a column have."""
-    (answer,) = {controllers.scale(controller, value) for controller in column}
-    kind, found = answer
-    assert kind == 'value', (column, value)
+    (answer,) = {scale(POD, controller, value) for controller in column}
+    outcome, found = answer
+    assert outcome == 'value', (column, value)
     return found
 
 
@@ -51,7 +52,7 @@ def main():
     headings = ['value', *(head(*column) for column in COLUMNS)]
     assert headings == read_headings(), headings
     print(*headings, sep='\t')
-    for value in range(controllers.TOP + 1):
+    for value in range(TOP + 1):
         print(value, *(number(column, value) for column, _ in COLUMNS),
               sep='\t')
 

@@ -16,7 +16,8 @@ from random import Random, SystemRandom
 
 from brief import add_opening
 from chance import add_random
-from player import ROWS, play, tally
+from kinds import KINDS
+from player import play, rows_of, tally
 from replay import SCRIPTS, histogram
 from script import Script
 from streams import play_plan
@@ -61,23 +62,36 @@ class Soak:
         """Compare all that a seed makes."""
         chance = Random(seed)
         for calm in CALM:
-            script = Script()
-            add_opening(script)
-            add_random(script, chance, COMMANDS, calm)
-            self.compare(bytes(script.commands))
-        for what, one, other, *found in play_plan(chance, self.compare):
+            self.compare(random_script(chance, calm))
+        for kind in KINDS:
+            self.compare_plan(kind, chance)
+
+    def compare_plan(self, kind, chance):
+        """Compare the runs of a plan for a box of this kind."""
+        for what, one, other, *found in play_plan(kind, chance, self.compare):
             if found[0] != found[1]:
-                raise Difference(f'{what}: {first_unlike(*found)}', one, other)
+                raise Difference(f'{kind.word}, {what}: '
+                                 f'{first_unlike(*found)}', one, other)
 
     def report(self, seconds):
         """Print what was compared, and the histogram."""
         calls = sum(self.given.values())
-        on_sockets = sum(count for (letter, _), count in self.given.items()
+        on_sockets = sum(count for (_, letter, _), count in self.given.items()
                          if letter == 'S')
         print(f'{self.scripts} scripts, {calls} calls, {on_sockets} bytes on '
               f'sockets, {self.printed} bytes printed and compared, '
               f'{seconds:.0f} s')
         sys.stdout.writelines(histogram(self.given))
+
+
+def random_script(chance, calm):
+    """Return a script: every number of each kind, then at random."""
+    script = Script()
+    for kind in chance.sample(KINDS, len(KINDS)):
+        script.become(kind)
+        add_opening(script)
+    add_random(script, chance, COMMANDS, calm)
+    return bytes(script.commands)
 
 
 def play_in_c(script):
@@ -144,7 +158,7 @@ def compare(soak, name):
 
 
 def main():
-    """Compare until the time is up; every number must have been given."""
+    """Compare until the time is up; each kind must have given every number."""
     parser = argparse.ArgumentParser(prog='tests/soak')
     parser.add_argument('seconds', nargs='?', type=float, default=60)
     parser.add_argument('--seed', type=int, help='this one seed alone')
@@ -155,9 +169,10 @@ def main():
         if time.monotonic() - start > given.seconds:
             break
     soak.report(time.monotonic() - start)
-    missing = {*ROWS} - {*tally(soak.given)}
-    if missing:
-        sys.exit(f'never given: {missing}')
+    for kind, rows in zip(KINDS, tally(soak.given)):
+        missing = rows_of(kind) - {*rows}
+        if missing:
+            sys.exit(f'never given, {kind.word}: {missing}')
 
 
 if __name__ == '__main__':

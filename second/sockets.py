@@ -3,16 +3,21 @@
 from functools import partial
 from itertools import chain, zip_longest
 
-from box import ALL, EDIT, END_BYTE, LONGEST, PROGRAM, START
-from controllers import AT_LEAST, TABLE
+from box import END_BYTE
 from judging import add_forms, show
-from messages import (ALL_HALVES, HALVES, PAD, changed, dump, dumps,
-                      edit_with, forms, identity, inserted, noise, request,
-                      resized, wave, waves)
+from kinds import ALL, EDIT, KINDS, PROGRAM, START
+from messages import (PAD, changed, dump, dumps, edit_with, forms, identity,
+                      inserted, noise, request, resized, wave, waves)
 from player import MESSAGE_ROOM
 from script import Script
 
 PIECE = 1000  # bytes of a long dump sent in one piece
+# Program changes: "0 (manual), 37 (tuner) and above", and those between.
+CHANGES = (0, 1, 2, 17, 36, 37, 38, 127)
+# Controllers that want an effect on some kind of box.
+SHARED = tuple(controller for kind in KINDS
+               for controller, rule in kind.table.items()
+               if rule.chosen_by is not None)
 
 
 def add_running(script, socket):
@@ -37,14 +42,14 @@ def add_running(script, socket):
     # "F1 to F6, and F7 outside a SysEx, clear running status."
     for status in range(0xF1, 0xF8):
         script.send_hex(socket, f'B0 0D 30 0E {status:02X} 0D 31 0E 32')
-    script.send(socket, request(EDIT))
+    script.send(socket, request(script.kind, EDIT))
 
 
 def add_real_time(script, socket):
-    """F8 to FF inside a SysEx of each kind."""
+    """F8 to FF inside an identity request and a dump of each type."""
     clocks = bytes(range(0xF8, 0x100))
     script.send_hex(socket, 'F0 F8 7E F9 7F FA 06 FB 01 FC FD FE FF F7')
-    for given, asked in dumps(7):
+    for given, asked in dumps(script.kind, 7):
         # why: going down, the places before are not moved
         for place in (len(given) - 1, len(given) // 2, 7, 1):
             given = inserted(given, place, clocks)
@@ -58,15 +63,16 @@ def add_cuts(script, socket, statuses):
         script.feed(socket, bytes.fromhex(
             f'F0 00 01 0C {status:02X} 0D 40 0E 41 0F F7 0D 42'))
     # "so F0 opens a new one"
+    header = script.kind.header.hex()
     for text in ('F0 00 01 F0 7E 7F 06 01 F7',
-                 'F0 F0 F0 00 01 0C 01 00 01 F7',
-                 'F0 00 01 0C 01 00 F8 F0 00 01 0C 01 00 00 23 F7'):
+                 f'F0 F0 {header} 00 01 F7',
+                 f'{header} 00 F8 {header} 00 00 23 F7'):
         script.send_hex(socket, text)
 
 
 def add_cut_dumps(script, socket):
     """Dumps cut just before their F7, then sent again."""
-    for given, asked in dumps(8):
+    for given, asked in dumps(script.kind, 8):
         for text in ('B0 0D 50 F7 0D 51', 'C0 05 06', 'F6 0D 52 F7',
                      'F0 7E 7F 06 01 F7'):
             script.feed(socket, given[:-1])
@@ -78,14 +84,15 @@ def add_cut_dumps(script, socket):
 
 
 def add_too_long(script, socket):
-    """A SysEx of 5,192 stored bytes and more, finished and cut."""
-    full = dump(ALL, waves(9))[:-1]
+    """A SysEx of as many bytes as can be stored, and more."""
+    kind = script.kind
+    full = dump(kind, ALL, waves(kind, 9))[:-1]
     # "5,193 with F7 is the longest message"; "F7 then gives 10"
     for mark, tail in enumerate(('F7', 'F8 F7', '00 F7', 'FE 00 F8 F7',
                                  '00 01 02 F7')):
-        script.feed(socket, changed(full, LONGEST // 2, mark))
+        script.feed(socket, changed(full, kind.longest // 2, mark))
         script.send_hex(socket, tail)
-        script.feed(socket, request(ALL))
+        script.feed(socket, request(kind, ALL))
     # "a cut gives 4"
     for tail in ('B0 0D 53', '00 B0 0D 54', '00 F6 0D 55', '00 F8 C0 56',
                  '00 F0 7E 7F 06 01 F7'):
@@ -96,19 +103,19 @@ def add_too_long(script, socket):
     for message in (changed(data, 0, START), data, END_BYTE):
         script.feed(socket, message)
     # of the greatest length but not ours, and one byte short
-    script.feed(socket, changed(full, 4, 2) + END_BYTE)
+    script.feed(socket, changed(full, 4, 0x7F) + END_BYTE)
     script.feed(socket, full[:-1] + END_BYTE)
-    show(partial(script.feed, socket))
+    show(kind, partial(script.feed, socket))
 
 
 def add_channels(script, socket, settings):
-    """Every kind of channel message on every channel."""
+    """Every sort of channel message on every channel."""
     for channel, omni in settings:
         script.settings(channel, omni)
         for sent in range(16):
             script.feed(socket, b''.join(
-                bytes((kind << 4 | sent, 13, 8 * channel + sent))
-                for kind in range(0x8, 0xF)))
+                bytes((upper << 4 | sent, 13, 8 * channel + sent))
+                for upper in range(0x8, 0xF)))
     # the settings at the last byte decide
     for channel, omni in ((5, 0), (6, 0), (6, 1), (5, 0)):
         script.settings(0, 0)
@@ -119,19 +126,55 @@ def add_channels(script, socket, settings):
     script.send_hex(socket, 'B0 0D 45 F7')
 
 
-def add_controllers(script, socket, values):
-    """Every controller with several values, over a mixed edit buffer."""
-    script.feed(socket, dump(EDIT, noise(3, HALVES)))
+def add_changes(script, socket):
+    """Program changes, over programs that all differ."""
+    kind = script.kind
+    script.feed(socket, dump(kind, ALL, waves(kind, 13)))
+    for status in (0xC0, 0xC1, 0xCF):
+        # under running status, and each with its own
+        script.send(socket, (status, *CHANGES))
+        for number in CHANGES:
+            script.send(socket, (status, 0xF8, number))
+    # the settings at the last byte decide
+    for channel, omni in ((5, 1), (5, 0), (0, 0)):
+        script.settings(0, 0)
+        script.send_hex(socket, 'C0')
+        script.settings(channel, omni)
+        script.send(socket, CHANGES)
+        script.send(socket, request(kind, EDIT))
+
+
+def add_recalled(script):
+    """A program that is stored, recalled, moved and stored over again."""
+    kind = script.kind
+    for seed, program in enumerate((0, 0x23)):
+        script.feed(0, dump(kind, PROGRAM, noise(seed, kind.halves), program))
+        # a change half received while the other socket stores
+        script.send_hex(1, 'C0')
+        script.whole(edit_with(kind, {46: 2}))
+        script.send(1, (program + 1,))
+        script.whole(request(kind, EDIT))
+        # moves do not reach the program itself
+        script.send_hex(0, 'B0 0C 03 0D 7F 13 02 F7')
+        script.whole(request(kind, PROGRAM, program))
+        # storing the program again does not reach the edit buffer
+        script.feed(1, dump(kind, PROGRAM, wave(seed, kind.halves), program))
+        script.whole(request(kind, EDIT))
+
+
+def add_controllers(script, socket, values, controllers=range(128)):
+    """Controllers with several values, over a mixed edit buffer."""
+    kind = script.kind
+    script.feed(socket, dump(kind, EDIT, noise(3, kind.halves)))
     for value in values:
-        pairs = ((controller, value) for controller in range(128))
+        pairs = ((controller, value) for controller in controllers)
         script.feed(socket, bytes((0xB0, *chain.from_iterable(pairs))))
-        script.send(socket, request(EDIT))
+        script.send(socket, request(kind, EDIT))
 
 
 def shared_moves(setting, value):
-    """Return byte 46 set by controller 19, then all shared controllers."""
-    pairs = ((controller, value) for controller, rule in TABLE.items()
-             if rule.chosen_by is not None)
+    """Return an effect selected by controller 19, then what may want one."""
+    pairs = ((controller, value) for controller in SHARED)
     return bytes((0xB0, 19, setting, *chain.from_iterable(pairs)))
 
 
@@ -140,26 +183,27 @@ def add_shared(script, socket, values):
     for value in values:
         for setting in range(16):
             script.feed(socket, shared_moves(setting, value))
-        script.send(socket, request(EDIT))
+        script.send(socket, request(script.kind, EDIT))
     # from a dump: "any value not listed, 6 and 10 too, gives 19"
     for setting in (2, 6, 10, 16, 0x22, 0x8E, 0xFF):
-        script.feed(socket, edit_with({46: setting}))
+        script.feed(socket, edit_with(script.kind, {46: setting}))
         # 19 at 16 is refused, so byte 46 stays
         script.feed(socket, shared_moves(16, 99))
-        script.send(socket, request(EDIT))
+        script.send(socket, request(script.kind, EDIT))
 
 
 def add_raised(script, socket):
     """Fields that a dump makes 0, then moves that are raised and others."""
-    for controller in AT_LEAST:
-        rule = TABLE[controller]
+    kind = script.kind
+    for controller in kind.at_least:
+        rule = kind.table[controller]
         # "Field ranges are not tested when a dump is stored."
-        script.feed(socket, edit_with({46: rule.chosen_by[0],
-                                       **dict.fromkeys(rule.field, 0)}))
-        script.send(socket, request(EDIT))
+        script.feed(socket, edit_with(kind, {
+            46: rule.chosen_by[0], **dict.fromkeys(rule.field, 0)}))
+        script.send(socket, request(kind, EDIT))
         pairs = ((controller, value) for value in range(8))
         script.feed(socket, bytes((0xB0, *chain.from_iterable(pairs))))
-        script.send(socket, request(EDIT))
+        script.send(socket, request(kind, EDIT))
 
 
 def add_numbers(script, socket):
@@ -170,16 +214,16 @@ def add_numbers(script, socket):
         places = dict(enumerate(bytes.fromhex(stored + 'A5'), 26))
         for moves in ('1E 00 3E 7F', '3E 00 1E 01', '1E 7F 3E 00',
                       '3E 01 1E 40 3E 7F 1E 7F'):
-            script.feed(socket, edit_with(places))
+            script.feed(socket, edit_with(script.kind, places))
             script.send_hex(socket, f'B0 {moves}')
-            script.send(socket, request(EDIT))
+            script.send(socket, request(script.kind, EDIT))
 
 
 def add_refusals(script, socket):
     """The forms of both scripts, as bytes on a socket."""
     hand = partial(script.feed, socket)
     add_forms(script, hand, 970)
-    for message in forms(9):
+    for message in forms(script.kind, 9):
         for length in (len(message) - 1, len(message) + 1):
             hand(resized(message, length))
 
@@ -194,16 +238,18 @@ def mix(script, *streams):
 
 def add_mixed(script):
     """Dumps and controllers on two sockets at once."""
+    kind = script.kind
     moves = bytes.fromhex('B0 0D 01 0E 02 F8 13 02 37 7F 38 63')
-    mix(script, edit_with({46: 2}, 5), moves * 12)
-    mix(script, moves + request(EDIT), dump(PROGRAM, wave(6, HALVES), 9))
-    mix(script, dump(EDIT, noise(4, HALVES)),
-        dump(PROGRAM, noise(5, HALVES), 0x23))
-    mix(script, request(EDIT), request(PROGRAM, 0x23))
+    mix(script, edit_with(kind, {46: 2}, 5), moves * 12)
+    mix(script, moves + request(kind, EDIT),
+        dump(kind, PROGRAM, wave(6, kind.halves), 9))
+    mix(script, dump(kind, EDIT, noise(4, kind.halves)),
+        dump(kind, PROGRAM, noise(5, kind.halves), 0x23))
+    mix(script, request(kind, EDIT), request(kind, PROGRAM, 0x23))
     # running status, a waiting byte and a cut are one socket's own
     mix(script, bytes.fromhex('B0 0D 11 0E 12 F6 0F 13 B0 0F 14'),
-        bytes.fromhex('C0 01 F0 00 01 0C 01 00 B0 0D 15 0E 16'))
-    mix(script, identity(0x7F), request(EDIT)[:-1] + b'\xF6')
+        bytes.fromhex(f'C0 01 {kind.header.hex()} 00 B0 0D 15 0E 16'))
+    mix(script, identity(0x7F), request(kind, EDIT)[:-1] + b'\xF6')
 
 
 def add_apart(script):
@@ -218,48 +264,59 @@ def add_apart(script):
 
 def add_pieces(script):
     """Two long dumps at once, piece by piece, the second damaged."""
-    first = dump(ALL, waves(10))
-    second = changed(dump(ALL, waves(11)), LONGEST - 2, 0x10)
-    for start in range(0, LONGEST, PIECE):
+    kind = script.kind
+    first = dump(kind, ALL, waves(kind, 10))
+    second = changed(dump(kind, ALL, waves(kind, 11)), kind.longest - 2, 0x10)
+    for start in range(0, kind.longest, PIECE):
         script.feed(0, first[start:start + PIECE])
         script.feed(1, second[start:start + PIECE])
-        script.whole(request(EDIT))
-    show(partial(script.feed, 1))
+        script.whole(request(kind, EDIT))
+    show(kind, partial(script.feed, 1))
 
 
 def add_noise(script):
     """A long dump without a pattern, and back."""
-    script.feed(1, dump(ALL, noise(6, ALL_HALVES)))
-    show(partial(script.feed, 0))
+    kind = script.kind
+    script.feed(1, dump(kind, ALL, noise(6, kind.all_halves)))
+    show(kind, partial(script.feed, 0))
 
 
 def add_panel(script):
     """Panel messages while both sockets have something half received."""
-    given = dump(EDIT, noise(7, HALVES))
+    kind = script.kind
+    given = dump(kind, EDIT, noise(7, kind.halves))
     script.feed(0, given[:80])
     script.send_hex(1, 'B0 13 02 37')
     # byte 46 changes under a waiting controller
-    script.whole(edit_with({46: 1}))
-    script.whole(request(EDIT))
+    script.whole(edit_with(kind, {46: 1}))
+    script.whole(request(kind, EDIT))
     script.send_hex(1, '7F 37 7F 33 7F')
     script.whole(identity(0x7F))
-    script.whole(dump(PROGRAM, wave(12, HALVES), 3))
+    script.whole(dump(kind, PROGRAM, wave(12, kind.halves), 3))
     script.whole(PAD)
     script.feed(0, given[80:])
-    show(script.whole)
+    show(kind, script.whole)
     script.send_hex(1, '0D 64 F7')
 
 
-def make_sockets():
-    """Return the script of sockets."""
-    script = Script()
+def add_every_change(script, socket):
+    """Every program change there is."""
+    script.feed(socket, bytes((0xC0, *range(128))))
+    show(script.kind, partial(script.feed, socket))
+
+
+def add_all(script):
+    """All parts, on a box of the script's kind."""
     for socket in (0, 1):
         add_running(script, socket)
         add_real_time(script, socket)
         add_cuts(script, socket, range(0x80, 0xF8))
         add_channels(script, socket, ((0, 0), (5, 0), (3, 1), (15, 0)))
+        add_changes(script, socket)
+        add_every_change(script, socket)
         add_shared(script, socket, (0, 21, 64, 127))
         add_raised(script, socket)
+    add_recalled(script)
     add_cut_dumps(script, 0)
     add_too_long(script, 1)
     add_controllers(script, 0, (0, 1, 15, 16, 27, 28, 63, 64, 127))
@@ -270,4 +327,12 @@ def make_sockets():
     add_pieces(script)
     add_panel(script)
     add_noise(script)
+
+
+def make_sockets():
+    """Return the script of sockets."""
+    script = Script()
+    for kind in KINDS:
+        script.become(kind)
+        add_all(script)
     return bytes(script.commands)

@@ -1,11 +1,12 @@
 """Two sockets and the panel at once: what demand 3 says, held against runs.
 
-A plan has a stream of bytes for each socket and a list of panel messages.
-It is played five times, from the same memory and under the same settings:
-mixed in an order of finishing, mixed otherwise in the same order, mixed in
-another order, and for each of the two orders one message at a time. Both
-receivers start fresh, no call is turned away, every call lends its own
-socket's receiver and buffer, and the settings stay: demand 3's premises.
+A plan has a kind of box, a stream of bytes for each socket and a list of
+panel messages. It is played five times, from the same memory and under the
+same settings: mixed in an order of finishing, mixed otherwise in the same
+order, mixed in another order, and for each of the two orders one message at a
+time. Both receivers start fresh, no call is turned away, every call lends its
+own socket's receiver and buffer, and the settings stay, the kind too: demand
+3's premises.
 
 A call is named by its source and its place there: the place of a byte in
 its socket's stream, or of a message in the panel's list. "Finishing" calls
@@ -17,7 +18,9 @@ any two runs (`Run.own`): "each socket's finished messages depend on that
 socket's bytes alone". For each socket, the same places have a number, and
 each has the same number, reply length, receive buffer and receiver. 3 and 19
 count as one, for which of them a finished controller message gets depends
-on byte 46, and so on what the others finished before it.
+on byte 46, and so on what the others finished before it. (A program change
+that a Bass box takes is 1 in any run: what it copies depends on the others,
+and its number does not.)
 
 two runs in the same order of finishing (`Run.all`): nothing but that order
 matters. Each place has the same number, reply length, reply, receive buffer
@@ -28,22 +31,22 @@ a run and one message at a time (`Run.effects`): "The programs, the edit
 buffer and the replies sent are exactly those of carrying out the finished
 messages whole, one at a time, in the order their last bytes arrived." A
 SysEx is handed over whole, a channel message is sent with nothing between
-its bytes. What a socket finishes is found by box.py from that socket's bytes
-alone. Each finishing call has the same number, reply length and reply and
-leaves the same memory. "Unfinished and cut messages have no effect": they
-are left out there.
+its bytes, a program change too. What a socket finishes is found by box.py
+from that socket's bytes alone. Each finishing call has the same number, reply
+length and reply and leaves the same memory. "Unfinished and cut messages have
+no effect": they are left out there.
 """
 
 from typing import NamedTuple
 
-from box import (ALL, CUT, END_BYTE, LONGEST, MOST_STORED, START, TOO_LONG,
-                 Receiver)
+from box import CUT, END_BYTE, TOO_LONG, Receiver
 from chance import REAL_TIME, asking, fragment, storing
+from controllers import APPLIED, NOT_SELECTED
+from kinds import ALL, START
 from messages import PAD, dump, edit_with, waves
 from script import Script
 
 SOCKETS, PANEL = (0, 1), 2
-APPLIED, NOT_SELECTED = 3, 19
 
 
 class Answer(NamedTuple):
@@ -58,26 +61,26 @@ class Answer(NamedTuple):
     reply: str          # in hex; empty where none was written
 
 
-def finished(stream):
+def finished(kind, stream):
     """Return {place: message} of what a socket's bytes alone finish."""
-    receiver, receive = Receiver(), bytearray(LONGEST)
+    receiver, receive = Receiver(), bytearray(kind.longest)
     messages = {}
     for place, byte in enumerate(stream):
-        number, sysex, channel = receiver.take(byte, receive)
+        number, sysex, channel = receiver.take(kind, byte, receive)
         if number == TOO_LONG:
             # as long as one can tell: one byte at least was dropped
-            sysex = bytes(receive[:MOST_STORED]) + PAD + END_BYTE
+            sysex = bytes(receive[:kind.most_stored]) + PAD + END_BYTE
         message = sysex if channel is None else channel
         if message is not None:
             messages[place] = message
     return messages
 
 
-def make_stream(chance, length):
+def make_stream(kind, chance, length):
     """Return a socket's bytes, with real-time bytes anywhere."""
     stream = bytearray()
     while len(stream) < length:
-        for byte in fragment(chance):
+        for byte in fragment(kind, chance):
             stream.append(byte)
             if chance.randrange(20) == 0:
                 stream.append(chance.choice(REAL_TIME))
@@ -85,18 +88,20 @@ def make_stream(chance, length):
 
 
 class Plan:
-    """What the sockets and the panel send, and the settings."""
+    """What the sockets and the panel send; the kind and the settings."""
 
-    def __init__(self, chance):
+    def __init__(self, kind, chance):
+        self.kind = kind
         self.settings = chance.choice(((0, 0), (0, 1), (5, 0)))
-        self.memory = (dump(ALL, waves(chance.getrandbits(32))),
-                       edit_with({46: chance.randrange(16)}))
-        panel = [chance.choice((asking, storing))(chance)
+        self.memory = (dump(kind, ALL, waves(kind, chance.getrandbits(32))),
+                       edit_with(kind, {46: chance.randrange(16)}))
+        panel = [chance.choice((asking, storing))(kind, chance)
                  for _ in range(chance.randrange(8))]
-        streams = [make_stream(chance, chance.randrange(300, 3000))
+        streams = [make_stream(kind, chance, chance.randrange(300, 3000))
                    for _ in SOCKETS]
         self.sources = (*streams, panel)
-        self.finished = (*map(finished, streams), dict(enumerate(panel)))
+        self.finished = (*(finished(kind, stream) for stream in streams),
+                         dict(enumerate(panel)))
 
     def order(self, chance):
         """Return an order of finishing: a source for each message."""
@@ -131,8 +136,8 @@ class Plan:
         return [(source, next(places[source])) for source in order]
 
     def begin(self):
-        """Return a script that sets the settings and fills memory."""
-        script = Script()
+        """Return a script that sets kind and settings and fills memory."""
+        script = Script(self.kind)
         for message in self.memory:
             script.whole(message)
         script.settings(*self.settings)
@@ -207,9 +212,9 @@ def read_answer(source, fields, following):
     return Answer(int(number), int(length), memory, reply_buffer, *own, reply)
 
 
-def play_plan(chance, play):
+def play_plan(kind, chance, play):
     """Play a plan, and yield (what, two scripts, what must be equal)."""
-    plan = Plan(chance)
+    plan = Plan(kind, chance)
     orders = plan.order(chance), plan.order(chance)
     one, two, other = (plan.mixed_script(plan.mix(chance, order))
                        for order in (orders[0], *orders))

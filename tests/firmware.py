@@ -1,10 +1,10 @@
-"""The firmware's box, run on files and pipes, against document 01.
+"""The firmware's box, run on files and pipes, against documents 01 and 02.
 
 python3 tests/firmware.py BOX FAULTY RUNNER..
 
-Called in the repository's root with PYTHONPATH=second. RUNNER.. is what runs
-a program, BOX the firmware, FAULTY the same over a library that finds a fault
-at the first byte. Says nothing where all is well.
+Called in the repository's root. RUNNER.. is what runs a program, BOX the
+firmware, FAULTY the same over a library that finds a fault at the first byte.
+Says nothing where all is well.
 """
 
 import os
@@ -21,45 +21,90 @@ from struct import unpack, unpack_from
 from termios import FIONREAD
 from typing import NamedTuple
 
-import messages
-from box import ALL, EDIT, EDIT_START, MEMORY_LENGTH, PROGRAM, Box
-from controllers import EDIT_LENGTH, split
-from listing import pattern
-from messages import changed, request
-
 BOX, FAULTY, *RUNNER = sys.argv[1:]
 PATIENCE = 60  # seconds for a check, under an emulator too
 MOST_SAID = 4096  # a box that says more waits for ever, and is ended
+PROGRAMS = 36
 
 IDENTITY = bytes.fromhex('F0 7E 7F 06 01 F7')
-# "F0 7E cc 06 02 00 01 0C 00 00 00 01, four revision bytes, F7"
-IDENTIFIED = bytes.fromhex('F0 7E 7F 06 02 00 01 0C 00 00 00 01'
-                           '30 31 30 30 F7')
-# a controller and an identity request for another channel
-OTHER_CHANNEL = bytes.fromhex('B1 0D 7F F0 7E 01 06 01 F7')
-ASK_ALL = request(ALL)
-SOME_MEMORY = pattern(MEMORY_LENGTH, 1)
+# a controller, an identity request and a program change for another channel
+OTHER_CHANNEL = bytes.fromhex('B1 0D 7F F0 7E 01 06 01 F7 C1 05')
 
 
-def ask(program):
-    """Return the request for a program."""
-    return request(PROGRAM, program)
+def pattern(length, seed):
+    """Return bytes that differ from place to place."""
+    return bytes((seed + 37 * place) % 256 for place in range(length))
 
 
-def dump(program, data):
-    """Return the dump of a program."""
-    return messages.dump(PROGRAM, split(data), program)
+def changed(message, place, byte):
+    """Return a message with another byte at a place."""
+    whole = bytearray(message)
+    whole[place] = byte
+    return bytes(whole)
 
 
-def dump_all(data):
-    """Return the dump of all programs."""
-    return messages.dump(ALL, split(data))
+class Kind(NamedTuple):
+    """A kind of unit as the documents have it, and its messages."""
+
+    word: str
+    size: int       # bytes of a program
+    memory: int
+    device: int     # the header's last byte
+    identity: str
+    changes: bool   # whether a program change is taken
+
+    def sysex(self, *pieces):
+        """Return a message of this unit."""
+        return b''.join((bytes((0xF0, 0x00, 0x01, 0x0C, self.device)),
+                         *map(bytes, pieces), b'\xF7'))
+
+    def ask(self, program):
+        """Return the request for a program."""
+        return self.sysex((0, 0, program))
+
+    def ask_edit(self):
+        """Return the request for the edit buffer."""
+        return self.sysex((0, 1))
+
+    def ask_all(self):
+        """Return the request for all programs."""
+        return self.sysex((0, 2))
+
+    def dump(self, program, data):
+        """Return the dump of a program."""
+        return self.sysex((1, 0, program, 0), halves(data))
+
+    def dump_edit(self, data):
+        """Return the dump of the edit buffer."""
+        return self.sysex((1, 1, 0), halves(data))
+
+    def dump_all(self, data):
+        """Return the dump of all programs."""
+        return self.sysex((1, 2, 0), halves(data))
+
+    def identified(self):
+        """Return the answer to the identity request."""
+        return bytes.fromhex(f'F0 7E 7F 06 02 00 01 0C {self.identity}'
+                             '30 31 30 30 F7')
+
+    def program(self, seed):
+        """Return the bytes of a program."""
+        return pattern(self.size, seed)
+
+    def programs(self, seed):
+        """Return the bytes of all programs."""
+        return pattern(PROGRAMS * self.size, seed)
 
 
-ONE = pattern(EDIT_LENGTH, 3)
-OTHER = pattern(EDIT_LENGTH, 4)
-EVERY = pattern(EDIT_START, 5)
-EVERY_OTHER = pattern(EDIT_START, 6)
+def halves(data):
+    """Return the half bytes of bytes."""
+    # "A byte travels as its high half, then its low half."
+    return bytes(half for byte in data for half in (byte >> 4, byte & 0x0F))
+
+
+POD = Kind('pod', 72, 2664, 0x01, '00 00 00 01', False)
+BASS = Kind('bass', 80, 2960, 0x02, '02 00 00 00', True)
+KINDS = POD, BASS
 
 
 class Ran(NamedTuple):
@@ -71,23 +116,33 @@ class Ran(NamedTuple):
 
 
 class Bench:
-    """A folder with a programs file, and the box beside it."""
+    """A folder with a programs file, and the box of a kind beside it."""
 
-    def __init__(self, folder):
+    def __init__(self, folder, kind):
+        self.kind = kind
         self.folder = Path(folder)
         self.programs = self.folder / 'programs'
         self.new = self.folder / 'programs.new'
         self.inputs = self.folder / 'input0', self.folder / 'input1'
         self.outputs = self.folder / 'output0', self.folder / 'output1'
         self.started = []
+        # what is fed: two programs, twice all programs, and a whole memory
+        self.one, self.other = kind.program(3), kind.program(4)
+        self.every, self.every_other = kind.programs(5), kind.programs(6)
+        self.some = pattern(kind.memory, 1)
+        self.zero = bytes(kind.size)
 
-    def start(self, *words, program=BOX):
-        """Start the box; without words, on the files of the folder."""
-        words = words or (self.programs, *self.inputs, *self.outputs)
+    def begin(self, program, *words):
+        """Start a program with these words."""
         box = subprocess.Popen([*RUNNER, program, *words],
                                stderr=subprocess.PIPE, text=True)
         self.started.append(box)
         return box
+
+    def start(self, *files, program=BOX):
+        """Start the box; without files, on those of the folder."""
+        files = files or (self.programs, *self.inputs, *self.outputs)
+        return self.begin(program, self.kind.word, *files)
 
     def end(self, box):
         """Wait for the box and return what it left."""
@@ -98,6 +153,9 @@ class Bench:
 
     def run(self, *streams, **options):
         """Run the box to its end with these bytes in its inputs."""
+        for path in self.inputs + self.outputs:
+            if path.is_fifo():
+                path.unlink()
         for path, stream in zip(self.inputs, streams):
             path.write_bytes(stream)
         return self.end(self.start(**options))
@@ -129,7 +187,18 @@ class Bench:
 
     def saved_program(self, program):
         """Return the bytes of one program of the programs file."""
-        return self.saved()[program * EDIT_LENGTH:][:EDIT_LENGTH]
+        return self.saved()[program * self.kind.size:][:self.kind.size]
+
+    def wait_until_saved(self, program, data):
+        """Wait until the programs file has this program."""
+        while not (self.programs.exists()
+                   and self.saved_program(program) == data):
+            time.sleep(0.02)
+
+    def stands(self):
+        """Return what another file in the programs file's place changes."""
+        stat = self.programs.stat()
+        return stat.st_ino, stat.st_mtime_ns
 
     def close(self):
         """End what is still running."""
@@ -149,16 +218,6 @@ def failed_at(ran, path):
             and f' {path}: ' in ran.said)
 
 
-def alone(stream):
-    """Return the second program's memory and replies for one socket."""
-    box = Box()
-    replies = b''
-    for byte in stream:
-        _, length = box.take(0, byte)
-        replies += box.reply[:length]
-    return box.memory, replies
-
-
 def check_exports(_):
     """The archive offers what the header declares, and nothing else."""
     archive = Path('target/staticlib/libcosterbloom.a').read_bytes()
@@ -175,93 +234,143 @@ def check_exports(_):
 def check_bench_case(bench):
     """Document 01's listing input, with a request on the other socket."""
     stream = bytes.fromhex('B0 0D 7F F8 0E 40 F0 7E 7F 06 01 F7 C0 05')
-    assert bench.run(stream, ask(0)) == well(IDENTIFIED, dump(0, bytes(72)))
+    assert bench.run(stream, POD.ask(0)) == well(POD.identified(),
+                                                 POD.dump(0, bytes(72)))
     # "v/2: 13>9 .. 14>11"
-    edit = bytearray(EDIT_LENGTH)
+    edit = bytearray(72)
     edit[9], edit[11] = 0x7F // 2, 0x40 // 2
-    assert bench.saved() == bytes(EDIT_START) + edit
+    assert bench.saved() == bytes(36 * 72) + edit
+
+
+def check_bass_case(bench):
+    """The same, but for its program change, on a Bass POD."""
+    stream = bytes.fromhex('B0 0D 7F F8 0E 40 F0 7E 7F 06 01 F7')
+    assert bench.run(stream, BASS.ask(0)) == well(BASS.identified(),
+                                                  BASS.dump(0, bytes(80)))
+    # "13>4, 14>6 .. by v/2"
+    edit = bytearray(80)
+    edit[4], edit[6] = 0x7F // 2, 0x40 // 2
+    assert bench.saved() == bytes(36 * 80) + edit
+
+
+def check_program_change(bench):
+    """A program change is stored and kept by a Bass POD alone."""
+    bench.programs.write_bytes(bench.some)
+    kind = bench.kind
+    # "a program change of 1 to 36 .. copies program 0 to 35 into the edit
+    # buffer"; "0 (manual), 37 (tuner) and above" do not
+    place = 7 * kind.size if kind.changes else PROGRAMS * kind.size
+    edit = bench.some[place:][:kind.size]
+    stream = bytes.fromhex('C0 01 08 00 25 7F') + kind.ask_edit()
+    assert bench.run(stream, b'') == well(kind.dump_edit(edit), b'')
+    assert bench.saved() == bench.some[:-kind.size] + edit
+
+
+def check_other_kind(bench):
+    """The other unit's dump is not ours, on either socket."""
+    bench.programs.write_bytes(bench.some)
+    other, = set(KINDS) - {bench.kind}
+    streams = (other.dump(0, other.program(3)) + other.ask(0),
+               other.dump_all(other.programs(5)) + other.ask_edit())
+    assert bench.run(*streams) == well(b'', b'')
+    assert bench.saved() == bench.some
 
 
 def check_kept(bench):
     """What one run stored, the next one sends, on either socket."""
-    edit = messages.dump(EDIT, split(OTHER))
-    assert bench.run(dump(0x23, ONE), edit) == well(b'', b'')
-    assert bench.saved() == bytes(35 * EDIT_LENGTH) + ONE + OTHER
-    ask_edit = request(EDIT)
-    assert bench.run(ask_edit, ask(0x23)) == well(edit, dump(0x23, ONE))
-    assert bench.saved() == bytes(35 * EDIT_LENGTH) + ONE + OTHER
+    kind, one, other = bench.kind, bench.one, bench.other
+    edit = kind.dump_edit(other)
+    assert bench.run(kind.dump(0x23, one), edit) == well(b'', b'')
+    assert bench.saved() == bytes(35 * kind.size) + one + other
+    assert (bench.run(kind.ask_edit(), kind.ask(0x23))
+            == well(edit, kind.dump(0x23, one)))
+    assert bench.saved() == bytes(35 * kind.size) + one + other
     assert not bench.new.exists()
+
+
+def refused(bench):
+    """Return messages that store nothing, each for another reason."""
+    good = bench.kind.dump_all(bench.every)
+    return (changed(good, -2, 0x10), changed(good, 7, 1),
+            good[:-2] + good[-1:],
+            changed(bench.kind.dump(0, bench.one), 7, 0x24),
+            good[:-1] + b'\xF6', OTHER_CHANNEL, good[:-1])
 
 
 def check_refused(bench):
     """Refused, cut and unfinished messages leave the file as it was."""
-    bench.programs.write_bytes(SOME_MEMORY)
-    good = dump_all(EVERY)
-    refused = (changed(good, -2, 0x10), changed(good, 7, 1),
-               good[:-2] + good[-1:], changed(dump(0, ONE), 7, 0x24),
-               good[:-1] + b'\xF6', good[:-1], OTHER_CHANNEL)
-    for message in refused:
+    bench.programs.write_bytes(bench.some)
+    for message in refused(bench):
         for streams in ((message, b''), (b'', message)):
             assert bench.run(*streams) == well(b'', b'')
-            assert bench.saved() == SOME_MEMORY
+            assert bench.saved() == bench.some
 
 
-def busy(programs):
+def busy(kind, programs):
     """Return a stream that stores and asks for these programs."""
-    sent = []
+    sent, replies = [], []
     for program in programs:
-        good = dump(program, pattern(EDIT_LENGTH, program))
-        sent += (good, b'\xFE', ask(program), changed(good, 9, 0x10),
-                 good[:100], IDENTITY, ask(program))
-    return b''.join(sent)
+        good = kind.dump(program, kind.program(program))
+        ask = kind.ask(program)
+        sent += (good, b'\xFE', ask, changed(good, 9, 0x10), good[:100],
+                 IDENTITY, ask)
+        replies += good, kind.identified(), good
+    return b''.join(sent), b''.join(replies)
 
 
 def check_apart(bench):
     """Each socket's replies are those of its bytes alone."""
-    streams = busy(range(18)), busy(range(18, 36))
-    (memory0, replies0), (memory1, replies1) = map(alone, streams)
-    half = 18 * EDIT_LENGTH
+    kind = bench.kind
+    (stream0, replies0), (stream1, replies1) = (
+        busy(kind, range(18)), busy(kind, range(18, 36)))
     for run in (bench.run, bench.run_piped):
-        assert run(*streams) == well(replies0, replies1)
-        assert bench.saved() == memory0[:half] + memory1[half:]
+        assert run(stream0, stream1) == well(replies0, replies1)
+        assert bench.saved() == b''.join(map(kind.program,
+                                             range(36))) + bench.zero
         bench.programs.unlink()
 
 
 def check_long(bench):
     """Of two long dumps at once, one stands whole at any time."""
-    dumps = dump_all(EVERY), dump_all(EVERY_OTHER)
+    kind, ends = bench.kind, (bench.every + bench.zero,
+                              bench.every_other + bench.zero)
+    dumps = kind.dump_all(bench.every), kind.dump_all(bench.every_other)
     # real-time bytes, so that the same place comes at different times
-    streams = dumps[0] + ASK_ALL, 50 * b'\xFE' + dumps[1] + ASK_ALL
+    streams = (dumps[0] + kind.ask_all(),
+               50 * b'\xFE' + dumps[1] + kind.ask_all())
     for run in (bench.run, bench.run_piped):
         ran = run(*streams)
         assert ran.status == 0 and all(sent in dumps for sent in ran.replies)
-        assert bench.saved() in (EVERY + bytes(72), EVERY_OTHER + bytes(72))
+        assert bench.saved() in ends
         bench.programs.unlink()
 
 
 def check_mixed(bench):
     """The dump whose last byte comes last stands, whoever began first."""
-    first, second = dump_all(EVERY), dump_all(EVERY_OTHER)
+    kind = bench.kind
+    first = kind.dump_all(bench.every)
+    second = kind.dump_all(bench.every_other)
     box, (in0, in1), (out0, out1) = bench.live()
     in0.write(first[:-1])
-    in1.write(second + ASK_ALL)
+    in1.write(second + kind.ask_all())
     assert out1.read(len(second)) == second
-    in0.write(first[-1:] + ASK_ALL)
+    in0.write(first[-1:] + kind.ask_all())
     assert out0.read(len(first)) == first
     in0.close()
-    in1.write(ASK_ALL)
+    in1.write(kind.ask_all())
     assert out1.read(len(first)) == first
     in1.close()
     assert bench.end(box).status == 0
-    assert bench.saved() == EVERY + bytes(72)
+    assert bench.saved() == bench.every + bench.zero
 
 
 def fill(bench):
     """Start the box; let socket 0 answer until its pipe is full."""
     box, inputs, outputs = bench.live()
     size = fcntl(outputs[0], F_SETPIPE_SZ, 65536)
-    times = size // len(dump_all(EVERY)) + 2
-    inputs[0].write(dump_all(EVERY) + times * ASK_ALL)
+    every = bench.kind.dump_all(bench.every)
+    times = size // len(every) + 2
+    inputs[0].write(every + times * bench.kind.ask_all())
     unread = 0
     # a pipe is full for poll when its last page is begun
     while unread <= size - os.sysconf('SC_PAGE_SIZE'):
@@ -274,23 +383,32 @@ def check_unread(bench):
     """A reply that nobody reads keeps the other socket from nothing."""
     box, (in0, in1), (out0, out1), times = fill(bench)
     in1.write(IDENTITY)
-    assert out1.read(len(IDENTIFIED)) == IDENTIFIED
+    answer = bench.kind.identified()
+    assert out1.read(len(answer)) == answer
+    # and it keeps what is stored from no save
+    in1.write(bench.kind.dump(8, bench.one))
+    bench.wait_until_saved(8, bench.one)
     in0.close()
     in1.close()
-    assert out0.read() == times * dump_all(EVERY)
+    sent = out0.read()
+    first = bench.kind.dump_all(bench.every)
+    assert len(sent) == times * len(first) and sent.startswith(first)
     assert bench.end(box).status == 0
 
 
 def check_signal(bench):
     """A signal to stop: what is finished is saved, half a dump is not."""
-    for number, data in ((signal.SIGTERM, ONE), (signal.SIGINT, OTHER)):
+    kind = bench.kind
+    for number, data in ((signal.SIGTERM, bench.one),
+                         (signal.SIGINT, bench.other)):
         box, (in0, in1), (out0, _) = bench.live()
-        in1.write(dump(7, EVERY[:72])[:-1])
-        in0.write(dump(8, data) + ask(8))
-        assert out0.read(154) == dump(8, data)
+        sent = kind.dump(8, data)
+        in1.write(kind.dump(7, bench.every[:kind.size])[:-1])
+        in0.write(sent + kind.ask(8))
+        assert out0.read(len(sent)) == sent
         box.send_signal(number)
         assert bench.end(box).status == 0
-        assert bench.saved_program(7) == bytes(72)
+        assert bench.saved_program(7) == bench.zero
         assert bench.saved_program(8) == data
 
 
@@ -299,7 +417,7 @@ def check_signal_when_stuck(bench):
     box, *_ = fill(bench)
     box.send_signal(signal.SIGTERM)
     assert bench.end(box).status == 0
-    assert bench.saved() == EVERY + bytes(72)
+    assert bench.saved() == bench.every + bench.zero
 
 
 def check_signal_when_busy(bench):
@@ -310,24 +428,108 @@ def check_signal_when_busy(bench):
         time.sleep(0.01)
     box.send_signal(signal.SIGINT)
     assert bench.end(box) == well(b'', b'')
-    assert bench.saved() == bytes(MEMORY_LENGTH)
+    assert bench.saved() == bytes(bench.kind.memory)
+
+
+def check_power_cut(bench):
+    """What was stored is in the file soon, while nothing else comes."""
+    kind = bench.kind
+    box, (in0, in1), _ = bench.live()
+    in0.write(kind.dump(8, bench.one))
+    bench.wait_until_saved(8, bench.one)
+    # within the second after a save: due when it is over, with no byte more
+    in1.write(kind.dump(9, bench.other))
+    bench.wait_until_saved(9, bench.other)
+    in0.write(bytes.fromhex('B0 0D 7F') + kind.dump(10, bench.one)[:-1])
+    while bench.saved()[-kind.size:] == bench.zero:
+        time.sleep(0.02)
+    box.kill()
+    box.wait()
+    assert bench.saved_program(10) == bench.zero
+    assert len(bench.saved()) == kind.memory
+    assert (bench.run(kind.ask(8), kind.ask(9))
+            == well(kind.dump(8, bench.one), kind.dump(9, bench.other)))
+
+
+def check_seldom(bench):
+    """A stream of stores is saved no more than once a second."""
+    _, (in0, _), _ = bench.live()
+    written = []
+    while len(written) < 3:
+        data = bench.kind.program(int(1000 * time.monotonic()))
+        in0.write(bench.kind.dump(0, data))
+        time.sleep(0.02)
+        if bench.programs.exists():
+            at = bench.programs.stat().st_mtime_ns
+            written += [at] if at not in written else []
+    # a little less than a second, since the file's clock is a coarse one
+    assert all(later - earlier > 900_000_000
+               for earlier, later in zip(written, written[1:])), written
+
+
+def check_waits(bench):
+    """While bytes wait on an input, nothing is saved before the end."""
+    kind = bench.kind
+    os.mkfifo(bench.inputs[0])
+    box = bench.start(bench.programs, bench.inputs[0], '/dev/zero',
+                      *bench.outputs)
+    sent = kind.dump(8, bench.one)
+    with open(bench.inputs[0], 'wb', 0) as in0:
+        in0.write(sent + kind.ask(8))
+        while not (bench.outputs[0].exists()
+                   and bench.outputs[0].read_bytes() == sent):
+            time.sleep(0.02)
+        time.sleep(1.5)
+        assert not bench.programs.exists()
+        box.send_signal(signal.SIGTERM)
+        assert bench.end(box) == well(sent, b'')
+    assert bench.saved_program(8) == bench.one
+
+
+def check_nothing_stored(bench):
+    """Where nothing is stored, no file takes the programs file's place."""
+    kind = bench.kind
+    bench.programs.write_bytes(bench.some)
+    before = bench.stands()
+    box, (in0, in1), (out0, _) = bench.live()
+    in0.write(b''.join(refused(bench)) + IDENTITY)
+    answer = kind.identified()
+    assert out0.read(len(answer)) == answer
+    time.sleep(1.5)
+    assert bench.stands() == before
+    in0.close()
+    in1.close()
+    assert bench.end(box).status == 0
+    assert bench.stands() == before and bench.saved() == bench.some
+    assert not bench.new.exists()
 
 
 def check_usage(bench):
-    """Too few or too many words."""
-    words = [bench.programs, *bench.inputs, *bench.outputs, 'more']
-    for count in (1, 4, 6):
-        ran = bench.end(bench.start(*words[:count]))
-        assert ran.status == 2 and ran.said.startswith('usage: box PROGRAMS ')
+    """Too few or too many words, or one that is no kind."""
+    files = [bench.programs, *bench.inputs, *bench.outputs]
+    wrong = [[], ['pod'], ['pod', *files[:-1]], ['bass', *files, 'more'],
+             files]
+    wrong += [[word, *files] for word in ('POD', 'po', 'bas', 'bassy', '1',
+                                          '')]
+    for words in wrong:
+        ran = bench.end(bench.begin(BOX, *words))
+        assert ran.status == 2, ran
+        assert ran.said.startswith('usage: box KIND PROGRAMS '), ran
     assert not any(bench.folder.iterdir())
 
 
 def check_wrong_length(bench):
     """A programs file of another length is refused and not touched."""
-    for length in (0, 1, 2663, 2665, 5328):
+    own = bench.kind.memory
+    others = {kind.memory for kind in KINDS} - {own}
+    for length in (0, 1, own - 1, own + 1, 2 * own, *others):
         bench.programs.write_bytes(pattern(length, 9))
-        ran = bench.run(dump(0, ONE), IDENTITY)
+        before = bench.stands()
+        ran = bench.run(bench.kind.dump(0, bench.one), IDENTITY)
         assert ran.status == 1 and f' {bench.programs} ' in ran.said, ran
+        assert ran.said.count('\n') == 1, ran
+        assert re.findall(r' (\d+)', ran.said) == [str(length), str(own)], ran
+        assert bench.stands() == before
         assert bench.saved() == pattern(length, 9)
         assert sorted(bench.folder.iterdir()) == [*bench.inputs,
                                                   bench.programs]
@@ -336,17 +538,17 @@ def check_wrong_length(bench):
 def check_cannot_load(bench):
     """A programs file that is there and cannot be opened is no fresh one."""
     bench.programs.symlink_to(bench.programs)
-    ran = bench.run(dump(0, ONE), IDENTITY)
+    ran = bench.run(bench.kind.dump(0, bench.one), IDENTITY)
     assert failed_at(ran, bench.programs), ran
     assert bench.programs.is_symlink()
 
 
 def check_cannot_open(bench):
     """A file that cannot be opened is named before any byte is taken."""
-    bench.programs.write_bytes(SOME_MEMORY)
+    bench.programs.write_bytes(bench.some)
     files = [bench.programs, *bench.inputs, *bench.outputs]
     for path in bench.inputs:
-        path.write_bytes(dump(0, ONE) + IDENTITY)
+        path.write_bytes(bench.kind.dump(0, bench.one) + IDENTITY)
     nowhere = bench.folder / 'nowhere' / 'file'
     for place in range(5):
         words = files[:place] + [nowhere] + files[place + 1:]
@@ -354,62 +556,90 @@ def check_cannot_open(bench):
         named = nowhere if place else nowhere.with_suffix('.new')
         assert failed_at(ran, named), ran
         assert ran.replies == (b'', b'')
-        assert bench.saved() == SOME_MEMORY
+        assert bench.saved() == bench.some
 
 
 def check_cannot_move(bench):
     """A socket that fails is left out; the other goes on; all is saved."""
-    bench.inputs[0].write_bytes(dump(0, ONE) + ask(0) + dump(2, ONE))
-    bench.inputs[1].write_bytes(dump(1, OTHER) + 50 * IDENTITY + ask(1))
+    kind, one, other = bench.kind, bench.one, bench.other
+    bench.inputs[0].write_bytes(kind.dump(0, one) + kind.ask(0)
+                                + kind.dump(2, one))
+    bench.inputs[1].write_bytes(kind.dump(1, other) + 50 * IDENTITY
+                                + kind.ask(1))
+    replies = 50 * kind.identified() + kind.dump(1, other)
     rest = bench.inputs[1], '/dev/full', bench.outputs[1]
     ran = bench.end(bench.start(bench.programs, bench.inputs[0], *rest))
     assert failed_at(ran, '/dev/full'), ran
-    assert ran.replies[1] == 50 * IDENTIFIED + dump(1, OTHER)
-    assert bench.saved() == ONE + OTHER + bytes(35 * 72)
+    assert ran.replies[1] == replies
+    assert bench.saved() == one + other + bytes(35 * kind.size)
     ran = bench.end(bench.start(bench.programs, bench.folder, *rest))
     assert failed_at(ran, bench.folder), ran
-    assert ran.replies[1] == 50 * IDENTIFIED + dump(1, OTHER)
+    assert ran.replies[1] == replies
 
 
 def check_unplugged(bench):
     """An output whose reader is gone fails like any other."""
+    kind = bench.kind
     box, (in0, in1), (out0, out1) = bench.live()
     out0.close()
-    in0.write(dump(0, ONE) + IDENTITY)
+    in0.write(kind.dump(0, bench.one) + IDENTITY)
     assert f' {bench.outputs[0]}: ' in box.stderr.readline()
-    in1.write(ask(0))
+    in1.write(kind.ask(0))
     in1.close()
-    assert out1.read() == dump(0, ONE)
+    assert out1.read() == kind.dump(0, bench.one)
     assert bench.end(box).status == 1
-    assert bench.saved_program(0) == ONE
+    assert bench.saved_program(0) == bench.one
 
 
 def check_cannot_save(bench):
     """A disk that is full at the end: the old programs stand."""
-    bench.programs.write_bytes(SOME_MEMORY)
+    bench.programs.write_bytes(bench.some)
     bench.new.symlink_to('/dev/full')
-    ran = bench.run(dump(0, ONE), IDENTITY)
+    ran = bench.run(bench.kind.dump(0, bench.one), IDENTITY)
     assert failed_at(ran, bench.new), ran
-    assert ran.replies == (b'', IDENTIFIED)
-    assert bench.saved() == SOME_MEMORY
+    assert ran.replies == (b'', bench.kind.identified())
+    assert bench.saved() == bench.some
+
+
+def check_saved_later(bench):
+    """A disk that is full for a while: told, and tried again."""
+    kind = bench.kind
+    bench.programs.write_bytes(bench.some)
+    bench.new.symlink_to('/dev/full')
+    box, (in0, in1), (out0, _) = bench.live()
+    in0.write(kind.dump(0, bench.one))
+    assert f' {bench.new}: ' in box.stderr.readline()
+    in0.write(kind.ask(0))
+    sent = kind.dump(0, bench.one)
+    assert out0.read(len(sent)) == sent
+    assert bench.saved() == bench.some
+    bench.new.unlink()
+    bench.wait_until_saved(0, bench.one)
+    in0.close()
+    in1.close()
+    assert bench.end(box).status == 0
+    assert bench.saved() == bench.one + bench.some[kind.size:]
 
 
 def check_fault(bench):
     """A fault that the library finds: said, and nothing is saved."""
-    bench.programs.write_bytes(SOME_MEMORY)
-    before = bench.programs.stat()
+    bench.programs.write_bytes(bench.some)
+    before = bench.stands()
     ran = bench.run(IDENTITY, b'', program=FAULTY)
     assert ran.status == 3 and ' 32,' in ran.said, ran
-    # a save would put another file in its place
-    assert os.path.samestat(before, bench.programs.stat())
-    assert bench.saved() == SOME_MEMORY
+    assert bench.stands() == before
+    assert bench.saved() == bench.some
 
 
-CHECKS = (check_exports, check_bench_case, check_kept, check_refused,
+EITHER = (check_program_change, check_other_kind, check_kept, check_refused,
           check_apart, check_long, check_mixed, check_unread, check_signal,
-          check_signal_when_stuck, check_signal_when_busy, check_usage,
+          check_signal_when_stuck, check_signal_when_busy, check_power_cut,
+          check_seldom, check_waits, check_nothing_stored,
           check_wrong_length, check_cannot_load, check_cannot_open,
-          check_cannot_move, check_unplugged, check_cannot_save, check_fault)
+          check_cannot_move, check_unplugged, check_cannot_save,
+          check_saved_later, check_fault)
+CHECKS = {POD: (check_exports, check_usage, check_bench_case, *EITHER),
+          BASS: (check_bass_case, *EITHER)}
 
 
 def out_of_patience(*_):
@@ -420,11 +650,12 @@ def out_of_patience(*_):
 def main():
     """Do every check in a folder of its own."""
     signal.signal(signal.SIGALRM, out_of_patience)
-    for check in CHECKS:
-        signal.alarm(PATIENCE)
-        with tempfile.TemporaryDirectory() as folder:
-            with closing(Bench(folder)) as bench:
-                check(bench)
+    for kind, checks in CHECKS.items():
+        for check in checks:
+            signal.alarm(PATIENCE)
+            with tempfile.TemporaryDirectory() as folder:
+                with closing(Bench(folder, kind)) as bench:
+                    check(bench)
 
 
 if __name__ == '__main__':

@@ -3,7 +3,7 @@
 #include <costerbloom.h>
 #include <system.h>
 
-enum { MESSAGE_ROOM = 8192, MEMORY_ROOM = 2700, BUFFER_ROOM = 5220, AT_ONCE = 65536 };
+enum { MESSAGE_ROOM = 8192, MEMORY_ROOM = 3000, BUFFER_ROOM = 5800, AT_ONCE = 65536 };
 enum { MEMORY, RECEIVE, REPLY = 3, BUFFERS };
 enum { TAKEN = 0, REPLIED = 2 };
 
@@ -12,11 +12,12 @@ static uint8_t message[MESSAGE_ROOM];
 static size_t message_length;
 static uint8_t memory[MEMORY_ROOM], receive[2][BUFFER_ROOM], reply[BUFFER_ROOM];
 static costerbloom_receiver receivers[2];
-static uint32_t controller;
+static uint32_t controller, kind;
 static uint64_t calls;
 static uint8_t channel, omni, revision[4] = {0x30, 0x31, 0x30, 0x30};
 static const size_t rooms[BUFFERS] = {MEMORY_ROOM, BUFFER_ROOM, BUFFER_ROOM, BUFFER_ROOM};
-static size_t lent[BUFFERS] = {COSTERBLOOM_MEMORY, COSTERBLOOM_LONGEST, COSTERBLOOM_LONGEST, COSTERBLOOM_LONGEST};
+static size_t lent[BUFFERS] = {
+    COSTERBLOOM_POD_MEMORY, COSTERBLOOM_POD_LONGEST, COSTERBLOOM_POD_LONGEST, COSTERBLOOM_POD_LONGEST};
 
 /* "A script is a run of 4-byte commands" */
 typedef struct {
@@ -121,7 +122,7 @@ static void print_value(char letter, uint32_t value)
 static void take(uint32_t socket, uint8_t byte)
 {
     size_t own = socket != 0; /* "any other number is lent receiver and receive buffer 1" */
-    uint64_t answer = costerbloom_take(&receivers[own], socket, byte, channel, omni, revision[0], revision[1],
+    uint64_t answer = costerbloom_take(&receivers[own], socket, byte, kind, channel, omni, revision[0], revision[1],
         revision[2], revision[3], memory, lent[MEMORY], receive[own], lent[RECEIVE + own], reply, lent[REPLY]);
     if (answer != TAKEN) /* a length beside number 0 would be printed, and seen */
         print_answer('S', answer);
@@ -136,20 +137,20 @@ static void feed(uint32_t socket)
 
 static void whole(void)
 {
-    print_answer('W', costerbloom_whole(message, message_length, channel, omni, revision[0], revision[1], revision[2],
-                          revision[3], memory, lent[MEMORY], reply, lent[REPLY]));
+    print_answer('W', costerbloom_whole(message, message_length, kind, channel, omni, revision[0], revision[1],
+                          revision[2], revision[3], memory, lent[MEMORY], reply, lent[REPLY]));
     calls++;
 }
 
 static void scale(uint32_t value)
 {
-    print_value('K', costerbloom_scale(controller, value));
+    print_value('K', costerbloom_scale(controller, value, kind));
     calls++;
 }
 
 static void back(void)
 {
-    print_value('D', costerbloom_back(memory, lent[MEMORY], controller));
+    print_value('D', costerbloom_back(controller, kind, memory, lent[MEMORY]));
     calls++;
 }
 
@@ -182,7 +183,7 @@ static void set_channel(uint8_t a, uint8_t b)
 
 static void play(command c)
 {
-    uint32_t n = c.a + 256u * c.b, socket = c.a + ((uint32_t)c.b << 24);
+    uint32_t n = c.a + 256u * c.b, wide = n + ((uint32_t)c.v << 24), socket = c.a + ((uint32_t)c.b << 24);
     switch (c.op) {
         case 'L': message_length = least(n, MESSAGE_ROOM); break;
         case 'B': message[n % MESSAGE_ROOM] = c.v; break;
@@ -193,10 +194,11 @@ static void play(command c)
         case 'Z': lent[c.v % BUFFERS] = least(n, rooms[c.v % BUFFERS]); break;
         case 'E': set_receiver(&receivers[c.b % 2], c.a % 8, c.v); break;
         case 'N': controller = controller << 16 | n; break;
+        case 'T': kind = wide; break;
         case 'W': whole(); break;
         case 'S': take(socket, c.v); break;
         case 'M': feed(socket); break;
-        case 'K': scale(n + ((uint32_t)c.v << 24)); break;
+        case 'K': scale(wide); break;
         case 'D': back(); break;
     }
 }

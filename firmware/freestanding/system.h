@@ -11,10 +11,15 @@ enum { SEEK_END = 2 };
 enum { POLLIN = 0x1, POLLOUT = 0x4 };
 enum { SIGINT = 2, SIGPIPE = 13, SIGTERM = 15 };
 enum { ENOENT = 2, EINTR = 4, ENAMETOOLONG = 36 };
+enum { CLOCK_MONOTONIC = 1 };
 
 struct pollfd {
     int fd;
     short events, revents;
+};
+
+struct timespec {
+    long seconds, nanoseconds;
 };
 
 typedef void (*signal_handler)(int);
@@ -28,10 +33,14 @@ ptrdiff_t write(int descriptor, const void *bytes, size_t count);
 long lseek(int descriptor, long place, int from);
 int fsync(int descriptor);
 int rename(const char *name, const char *new_name);
+int unlink(const char *name);
 int pipe2(int descriptors[2], int flags);
 int poll(struct pollfd *awaited, unsigned long count, int milliseconds);
+int clock_gettime(int clock, struct timespec *now);
 signal_handler signal(int number, signal_handler handler);
 _Noreturn void _exit(int status);
+
+int strcmp(const char *text, const char *other);
 
 int *__errno_location(void);
 #define errno (*__errno_location())

@@ -1,4 +1,4 @@
-// Standard input as socket 0 of a fresh box: a line for each byte whose number is not 0.
+// Standard input as socket 0 of a fresh box, of the kind that a word names: a line for each byte whose number is not 0.
 mod lines;
 
 use framing::Receiver;
@@ -16,17 +16,56 @@ struct Stand {
 }
 
 fn main() {
+    let kind = told();
+    if kinds::is_kind(kind) {
+        list(kind);
+        return;
+    }
+    io::write_all(STDERR_FILENO, b"listing: the kind is pod or bass\n");
+}
+
+// The number of the kind that the program is told: a POD's where there is no word, and 2, which is no kind's, where the
+// words name none.
+fn told() -> u32 {
+    let words = os::arg_count();
+    match words {
+        0 | 1 => 0,
+        2 => named(),
+        _ => 2,
+    }
+}
+
+// The kind that the one word names; a word of more than four bytes is handed out as an empty one.
+fn named() -> u32 {
+    let mut word = [0u8; 4];
+    let length = os::arg(1, &mut word);
+    if check::same(&word[..length], b"pod") {
+        return 0;
+    }
+    if check::same(&word[..length], b"bass") {
+        return 1;
+    }
+    2
+}
+
+fn list(kind: u32) {
     io::write_all(STDOUT_FILENO, b"at\tnumber\treply\n");
     let mut part = io::large_buffer();
     let mut memory: Memory = [0; podbox::MEMORY];
     let mut receive: Buffer = [0; podbox::LONGEST];
     let mut reply: Buffer = [0; podbox::LONGEST];
-    list_all(&mut part, &mut memory, &mut receive, &mut reply);
+    list_all(kind, &mut part, &mut memory, &mut receive, &mut reply);
 }
 
 // Part after part, to the end of the input, or to where it cannot be read, which is said on standard error. A proved loop
 // has to end, and nothing says that an input does: so its turns are counted, up to a number that no run reaches.
-fn list_all(part: &mut [u8], memory: &mut Memory, receive: &mut Buffer, reply: &mut Buffer) {
+fn list_all(
+    kind: u32,
+    part: &mut [u8],
+    memory: &mut Memory,
+    receive: &mut Buffer,
+    reply: &mut Buffer,
+) {
     let mut stand = Stand {
         receiver: framing::fresh(),
         place: 0,
@@ -41,7 +80,7 @@ fn list_all(part: &mut [u8], memory: &mut Memory, receive: &mut Buffer, reply: &
         if n == 0 {
             return;
         }
-        stand = list_part(stand, &part[..n], memory, receive, reply);
+        stand = list_part(stand, &part[..n], kind, memory, receive, reply);
     }
 }
 
@@ -49,6 +88,7 @@ fn list_all(part: &mut [u8], memory: &mut Memory, receive: &mut Buffer, reply: &
 fn list_part(
     before: Stand,
     part: &[u8],
+    kind: u32,
     memory: &mut Memory,
     receive: &mut Buffer,
     reply: &mut Buffer,
@@ -62,6 +102,7 @@ fn list_part(
             receiver,
             0,
             part[i],
+            kind,
             podbox::FRESH_SETTINGS,
             memory,
             receive,

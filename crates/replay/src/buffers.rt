@@ -1,11 +1,11 @@
-// The buffers that calls are lent, each longer than a call needs, and how much of each is lent.
+// The buffers that calls are lent, each longer than a call of any kind needs, and how much of each is lent.
 use crate::script;
 use crate::script::Command;
 
-pub(crate) const MEMORY: usize = 2700;
+pub(crate) const MEMORY: usize = 3000;
 
 // Of a receive buffer and of the reply buffer.
-pub(crate) const SIZE: usize = 5220;
+pub(crate) const SIZE: usize = 5800;
 
 pub(crate) type Memory = [u8; MEMORY];
 
@@ -19,12 +19,12 @@ pub(crate) struct Lent {
     pub(crate) reply: u16,
 }
 
-// As much as a call needs.
+// As much as a call of a POD needs.
 pub(crate) const NEEDED: Lent = Lent {
-    memory: podbox::MEMORY as u16,
-    receive0: podbox::LONGEST as u16,
-    receive1: podbox::LONGEST as u16,
-    reply: podbox::LONGEST as u16,
+    memory: 2664,
+    receive0: 5193,
+    receive1: 5193,
+    reply: 5193,
 };
 
 // What a command writes to memory; any other command leaves it.

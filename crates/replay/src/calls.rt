@@ -18,6 +18,7 @@ pub(crate) fn whole(
     let reply_end = io::count(desk.lent.reply as isize, reply);
     let answer = podbox::whole_message(
         message,
+        desk.kind,
         desk.settings,
         &mut memory[..memory_end],
         &mut reply[..reply_end],
@@ -96,6 +97,7 @@ fn take(
         desk::receiver_of(desk, socket),
         socket,
         byte,
+        desk.kind,
         desk.settings,
         &mut memory[..memory_end],
         &mut receive[..receive_end],
@@ -108,7 +110,7 @@ pub(crate) fn scale(desk: Desk, value: u32) -> Desk {
     print::value(
         b'K',
         desk,
-        costerbloom::costerbloom_scale(desk.controller, value),
+        costerbloom::costerbloom_scale(desk.controller, value, desk.kind),
     );
     desk::counted(desk)
 }
@@ -119,7 +121,7 @@ pub(crate) fn show_back(desk: Desk, memory: &[u8]) -> Desk {
     print::value(
         b'D',
         desk,
-        costerbloom::costerbloom_back(&memory[..end], desk.controller),
+        costerbloom::costerbloom_back(desk.controller, desk.kind, &memory[..end]),
     );
     desk::counted(desk)
 }

@@ -10,6 +10,8 @@ use sysex::Settings;
 pub(crate) struct Desk {
     // The message's length; one above its buffer's is taken as that.
     pub(crate) length: u16,
+    // The kind's number, of a kind or not.
+    pub(crate) kind: u32,
     pub(crate) settings: Settings,
     pub(crate) lent: Lent,
     pub(crate) receiver0: Receiver,
@@ -22,6 +24,7 @@ pub(crate) struct Desk {
 pub(crate) fn fresh() -> Desk {
     Desk {
         length: 0,
+        kind: 0,
         settings: podbox::FRESH_SETTINGS,
         lent: buffers::NEEDED,
         receiver0: framing::fresh(),
@@ -37,6 +40,7 @@ pub(crate) fn changed(before: Desk, command: Command) -> Desk {
     let op = command.op;
     match op {
         b'L' => desk.length = script::number(command),
+        b'T' => desk.kind = script::wide(command),
         b'C' => {
             desk.settings.channel = command.a;
             desk.settings.omni = command.b;

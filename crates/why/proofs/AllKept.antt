@@ -4,6 +4,8 @@ use mathlib.Core.List.{List, [], _∷_, _++_, append-assoc, flatten}
 use mathlib.Core.Path.{_≡_, refl, ap, _∙_}
 use native.Mathlib.Omega.{arith}
 use lib.ListN.{length, take, length-append}
+use Rattle.kinds.specs.declared.Kind.{Kind}
+use Rattle.sysex.proofs.Lengths.{longest-bounds}
 use Rattle.podbox.specs.Whole.{reasonOf}
 use Rattle.podbox.proofs.Orders.{first-bytes}
 use Rattle.why.specs.Kept.{bufferSize, Kept, Steps, done, next}
@@ -38,7 +40,8 @@ module _ (count : ℕ) (message entry : List ℕ) (parts : List (List ℕ)) (ste
   pub all-kept : (take count message ≡ take (length entry) (flatten parts)) × (count ≡ min (length entry) (length (flatten parts)))
   all-kept = let k = kept-from steps (omega arith) in (k .first, omega (arith, k .counted))
 
-  -- In the buffer of 5,194 places what is kept has the reason of all of the input.
-  pub reason-of-all : length entry ≡ bufferSize → reasonOf (take count message) ≡ reasonOf (flatten parts)
-  reason-of-all places =
-      ap reasonOf (all-kept .0 ∙ ap (λ (n : ℕ). take n (flatten parts)) places) ∙ first-bytes (flatten parts)
+  -- In the buffer of 5,770 places what is kept has the reason of all of the input, for a box of any kind.
+  pub reason-of-all : (kind : Kind) → length entry ≡ bufferSize → reasonOf kind (take count message) ≡ reasonOf kind (flatten parts)
+  reason-of-all kind places =
+      let longest = longest-bounds kind in
+      ap (reasonOf kind) (all-kept .0 ∙ ap (λ (n : ℕ). take n (flatten parts)) places) ∙ first-bytes kind bufferSize (omega (arith, longest .1)) (flatten parts)

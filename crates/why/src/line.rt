@@ -33,10 +33,10 @@ fn failed(check: Check) {
             text(b"too long\tat most ");
             bytes(most);
         }
-        Check::Ours => {
-            text(
-                b"ours\tF0 7E cc 06 01 F7 or F0 00 01 0C 01 .. F7, with nothing above 0x7F between",
-            );
+        Check::Ours(device) => {
+            text(b"ours\tF0 7E cc 06 01 F7 or F0 00 01 0C ");
+            pair(device);
+            text(b" .. F7, with nothing above 0x7F between");
         }
         Check::OpcodeAndType => text(b"opcode and type\topcode 00 or 01, then type 00, 01 or 02"),
         Check::Length(right) => {
@@ -86,6 +86,10 @@ fn at_most(byte: u8) {
 
 fn hex(byte: u8) {
     text(b"0x");
+    pair(byte);
+}
+
+fn pair(byte: u8) {
     text(&[DIGITS[byte as usize / 16], DIGITS[byte as usize % 16]]);
 }
 

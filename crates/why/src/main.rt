@@ -1,4 +1,5 @@
-// One message from standard input, handed whole to a fresh box: the line that says what becomes of it.
+// One message from standard input, handed whole to a fresh box of the kind that a word names: the line that says what
+// becomes of it.
 mod line;
 
 ghost use Prim.Native.Nat.{_≤_};
@@ -6,10 +7,11 @@ ghost use mathlib.Core.List.{[], _∷_};
 ghost use mathlib.Core.Path.{_≡_};
 ghost use lib.ListN.{length};
 ghost use Rattle.why.specs.Kept.{bufferSize, Kept, Reads};
+use kinds::Kind;
 use libc::STDERR_FILENO;
 use libc::STDIN_FILENO;
 
-// A byte more than the longest message: one that fills this is too long, whatever follows.
+// A byte more than the longest message of any kind: one that fills this is too long, whatever follows.
 const SIZE: usize = podbox::LONGEST + 1;
 
 // How many bytes of the input are kept, or that it could not be read.
@@ -19,11 +21,44 @@ enum Input {
 }
 
 fn main() {
+    let kind = told();
+    if kinds::is_kind(kind) {
+        tell_input(kinds::kind_of(kind));
+        return;
+    }
+    io::write_all(STDERR_FILENO, b"why: the kind is pod or bass\n");
+}
+
+// The number of the kind that the program is told: a POD's where there is no word, and 2, which is no kind's, where the
+// words name none.
+fn told() -> u32 {
+    let words = os::arg_count();
+    match words {
+        0 | 1 => 0,
+        2 => named(),
+        _ => 2,
+    }
+}
+
+// The kind that the one word names; a word of more than four bytes is handed out as an empty one.
+fn named() -> u32 {
+    let mut word = [0u8; 4];
+    let length = os::arg(1, &mut word);
+    if check::same(&word[..length], b"pod") {
+        return 0;
+    }
+    if check::same(&word[..length], b"bass") {
+        return 1;
+    }
+    2
+}
+
+fn tell_input(kind: Kind) {
     let mut message = [0u8; SIZE];
     let mut part = io::large_buffer();
     let input = read_all(&mut message, &mut part);
     match input {
-        Input::Kept(count) => tell(&message, count),
+        Input::Kept(count) => tell(&message, count, kind),
         Input::Failed => {
             io::write_all(STDERR_FILENO, b"why: standard input cannot be read\n");
         }
@@ -31,12 +66,12 @@ fn main() {
 }
 
 // What fills the buffer is told whole: it is too long.
-fn tell(message: &[u8], kept: usize) {
+fn tell(message: &[u8], kept: usize, kind: Kind) {
     if kept < message.len() {
-        line::print(podbox::reason(&message[..kept]));
+        line::print(podbox::reason(&message[..kept], kind));
         return;
     }
-    line::print(podbox::reason(message));
+    line::print(podbox::reason(message, kind));
 }
 
 // The input is read to its end, so that whoever writes it is not cut off. A proved loop has to end, and nothing says that

@@ -5,10 +5,10 @@ use Rattle.listing.proofs.list_part.Statement.{statement}
 use Rattle.listing.proofs.list_part.Tie as tie
 
 abbrev Inv-loop : tie.InvT-loop
-Inv-loop part memory₀ receive₀ reply₀ lines₀ used₀ receiver₀ place₀ i₀ i-end memory receive reply lines used receiver place i = Unit {0}
+Inv-loop part kind memory₀ receive₀ reply₀ lines₀ used₀ receiver₀ place₀ i₀ i-end memory receive reply lines used receiver place i = Unit {0}
 
 abbrev μ-loop : tie.MeasureT-loop
-μ-loop part memory₀ receive₀ reply₀ lines₀ used₀ receiver₀ place₀ i₀ i-end memory receive reply lines used receiver place i = i-end - i
+μ-loop part kind memory₀ receive₀ reply₀ lines₀ used₀ receiver₀ place₀ i₀ i-end memory receive reply lines used receiver place i = i-end - i
 
 pub list-part-spec : {M : Type 1} → statement M
 list-part-spec =

@@ -1,0 +1,186 @@
+"""What hangs on the kind of box: one entry each, and what follows from it.
+
+POD's page is document 01, with Req 01 of document 02; BASS's is Req 04, whose
+text names what it takes from source document 001. A further kind is a further
+entry of KINDS.
+"""
+
+from dataclasses import dataclass
+from functools import cached_property
+
+from controllers import TOP, read_page
+
+PROGRAMS = 36  # "36 programs (0x00 to 0x23, shown 1A to 9D)"
+START, END = 0xF0, 0xF7
+REQUEST, DUMP = 0, 1          # opcodes
+PROGRAM, EDIT, ALL = 0, 1, 2  # types
+MAKER = bytes.fromhex('00 01 0C')  # in every header and identity reply
+
+
+@dataclass(frozen=True, eq=False)
+class Kind:
+    """A kind of box, as the documents give it."""
+
+    number: int      # as a call brings it
+    word: str        # as a program is told it
+    size: int        # bytes of a program
+    device: int      # the header's last byte
+    identity: bytes  # what an identity reply says it is
+    changes: range   # program changes that copy a program, in number order
+    own: tuple       # its controllers: pairs, formula, highest value
+    shared: tuple    # values of byte 46, then pairs, each with a formula
+    at_least: dict   # controllers whose number is raised, and to what
+
+    @property
+    def edit_start(self):
+        """Return the edit buffer's place: "programs in number order, then"."""
+        return PROGRAMS * self.size
+
+    @property
+    def memory_length(self):
+        """Return the length of the programs and the edit buffer."""
+        return self.edit_start + self.size
+
+    @property
+    def halves(self):
+        """Return how many half bytes a program is."""
+        return 2 * self.size
+
+    @property
+    def all_halves(self):
+        """Return how many half bytes all programs are."""
+        return PROGRAMS * self.halves
+
+    @cached_property
+    def header(self):
+        """Return what "all the rest begins" with."""
+        return bytes((START, *MAKER, self.device))
+
+    @cached_property
+    def lengths(self):
+        """Return "Whole length" by "opcode and type"."""
+        bare = len(self.header) + 2 + 1  # opcode and type, F7
+        return {
+            (REQUEST, PROGRAM): bare + 1,  # "pp"
+            (REQUEST, EDIT): bare,
+            (REQUEST, ALL): bare,
+            (DUMP, PROGRAM): bare + 2 + self.halves,  # "pp vv data"
+            (DUMP, EDIT): bare + 1 + self.halves,     # "vv data"
+            (DUMP, ALL): bare + 1 + self.all_halves,
+        }
+
+    @cached_property
+    def longest(self):
+        """Return the length of "the longest message", with F7."""
+        return max(self.lengths.values())
+
+    @cached_property
+    def most_stored(self):
+        """Return how many bytes of a SysEx are stored at most."""
+        # "F7 is not stored"
+        return self.longest - 1
+
+    @cached_property
+    def least(self):
+        """Return the least lengths of memory and of the other buffers."""
+        return (self.memory_length, *(self.longest,) * 3)
+
+    @cached_property
+    def table(self):
+        """Return the rules of its controllers, in the page's order."""
+        return read_page(self.own, self.shared, self.at_least)
+
+    @property
+    def has_effects(self):
+        """Say whether some of its controllers want an effect selected."""
+        return bool(self.shared)
+
+
+# "v is the value received, division drops the remainder, a pair c>b is
+# controller and byte."
+POD = Kind(
+    number=0,
+    word='pod',
+    size=72,  # "one edit buffer, 72 bytes each"
+    device=0x01,  # "All the rest begins F0 00 01 0C 01"
+    identity=bytes.fromhex('00 00 00 01'),
+    changes=range(0),  # "channel message other than a controller": 21
+    own=(
+        # "v/64"
+        ('25>0 26>1 27>2 28>3 50>4 36>5 22>6 73>7 47>24 37>38',
+         lambda v: v // 64, TOP),
+        # "v/2"
+        ('13>9 20>10 14>11 15>12 16>13 21>14 17>15 24>17 32>34 34>36 38>39 '
+         '39>40 40>41 41>42 18>43 72>45 1>47',
+         lambda v: v // 2, TOP),
+        # "v"; "12>8 up to 27; 71>44 and 19>46 up to 15"
+        ('4>18 44>19 45>20 7>22 46>23', lambda v: v, TOP),
+        ('12>8', lambda v: v, 27),
+        ('71>44 19>46', lambda v: v, 15),
+        # "23>16: (127 - v) x 194 / 256"
+        ('23>16', lambda v: (127 - v) * 194 // 256, TOP),
+        # "30 and 62, bytes 26 to 28, lowest first": no formula of v alone
+        ('30>26,27,28 62>26,27,28', None, TOP),
+    ),
+    # "Bytes 48 to 54 are shared."  "Two-byte fields are lowest first."
+    shared=(
+        ((14,), (
+            ('49>48', lambda v: v // 2),)),
+        ((7, 11), (
+            ('42>48', lambda v: v // 22),)),
+        ((0, 1, 3, 4, 8, 12, 13, 15), (
+            ('51>48,49', lambda v: v * 50),
+            ('52>50,51', lambda v: v * 256 // 104),
+            ('53>52', lambda v: v),
+            ('54>53,54', lambda v: v * 256 // 42))),
+        ((2,), (
+            ('55>48', lambda v: v // 64),
+            ('56>49,50 57>51,52', lambda v: v * 22 + 100))),
+        ((5, 9), (
+            ('58>48,49', lambda v: v * 25),
+            ('59>50', lambda v: v))),
+    ),
+    # Req 01: "After the formula, 51 is raised to at least 200, 58 to at least
+    # 150 and 54 to at least 1."
+    at_least={51: 200, 58: 150, 54: 1},
+)
+
+# Req 04: "Hold a Bass POD too."
+BASS = Kind(
+    number=1,
+    word='bass',
+    size=80,  # "80 data bytes a program (160 half bytes)"
+    device=0x02,  # "device byte 02"
+    identity=bytes.fromhex('02 00 00 00'),  # "identity 02 00 00 00"
+    # "a program change of 1 to 36 .. copies program 0 to 35"
+    changes=range(1, 37),
+    # "Only these controllers"
+    own=(
+        # "12>3 and 19>49 as received up to 15"
+        ('12>3 19>49', lambda v: v, 15),
+        # "64>2 by v/64"
+        ('64>2', lambda v: v // 64, TOP),
+        # "13>4, 14>6, 15>7, 16>8, 17>10, 18>11, 1>50 by v/2"
+        ('13>4 14>6 15>7 16>8 17>10 18>11 1>50', lambda v: v // 2, TOP),
+    ),
+    shared=(),
+    at_least={},
+)
+
+# "A box is set as POD or Bass POD before use."
+KINDS = (POD, BASS)
+BY_NUMBER = {kind.number: kind for kind in KINDS}
+BY_WORD = {kind.word: kind for kind in KINDS}
+EVERY_CONTROLLER = tuple(dict.fromkeys(
+    controller for kind in KINDS for controller in kind.table))
+
+
+def others(kind):
+    """Return the other kinds."""
+    return tuple(other for other in KINDS if other is not kind)
+
+
+def kind_told(words):
+    """Return the kind that a program's words tell: POD where none does."""
+    word, = words or (POD.word,)
+    return BY_WORD[word]

@@ -1,0 +1,96 @@
+"""Parts of scripts: the kind that calls bring, changed between them.
+
+A call is judged by the kind that it brings itself, whatever the ones before
+it brought; a number that is no kind's is 32, "just before 30".
+"""
+
+from itertools import cycle, permutations
+
+from box import MEMORY
+from kinds import ALL, EDIT, KINDS, others
+from messages import PAD, dump, dumps, identity, request, waves
+from player import ROOMS
+
+# Numbers that are no kind's; some would be one's if they were cut.
+NO_KINDS = (2, 3, 0xFF, 0x100, 0x101, 0xFFFF, 1 << 24, (1 << 24) + 1,
+            0x80000000, 0xFF000001, 0xFF00FFFF)
+
+
+def add_calls(script):
+    """A call of each sort, and a byte on a socket that is none."""
+    for socket in (0, 1, 2):
+        script.send_hex(socket, 'F8 F7')
+    script.whole(identity(0x7F))
+    script.back(13, 0)
+    script.scale(5, 128)
+
+
+def add_no_kinds(script, numbers):
+    """Numbers that are no kind's, with something half received."""
+    script.send_hex(0, 'B0 0D')
+    script.send_hex(1, 'F0 7E')
+    for number in numbers:
+        script.bring(number)
+        add_calls(script)
+        # "just before 30"
+        script.lend(MEMORY, 0)
+        add_calls(script)
+        script.lend_back(MEMORY)
+    script.bring_back()
+    script.send_hex(0, '61 F7')
+    script.send_hex(1, '7F 06 01 F7')
+
+
+def add_other_buffers(script):
+    """Calls that bring another kind than what is lent is for."""
+    for other in others(script.kind):
+        script.bring(other.number)
+        add_calls(script)
+    script.bring_back()
+
+
+def add_switched_bytes(script):
+    """A channel message whose last byte brings another kind."""
+    for turn in permutations(KINDS, 2):
+        for text, kind in zip(('B0 0D', '21 0D', '22 C0', '01', '24 B0 13',
+                               '0F F7'), cycle(turn)):
+            script.bring(kind.number)
+            script.send_hex(0, text)
+
+
+def add_switched_dumps(script, kind, other):
+    """A dump that is begun, or finished, while the other kind is brought."""
+    for given, _ in dumps(kind, 14):
+        script.bring(other.number)
+        script.feed(0, given[:100])
+        script.bring(kind.number)
+        script.feed(0, given[100:])
+        script.feed(1, given[:-1])
+        # so much stored may be more than the other kind's receiver holds
+        script.bring(other.number)
+        script.send_hex(1, 'F8 F7')
+        script.whole(request(other, EDIT))
+        script.bring(kind.number)
+        script.send_hex(1, 'F7')
+        script.whole(identity(0x7F))
+
+
+def add_switched_mark(script, kind, other):
+    """Marked too long with as much stored as one kind can: not the other."""
+    script.feed(0, dump(kind, ALL, waves(kind, 15))[:-1] + PAD)
+    script.bring(other.number)
+    script.send_hex(0, 'F8 00 F0')
+    script.receiver(0)
+    script.bring(kind.number)
+    script.feed(0, dump(kind, ALL, waves(kind, 15)))
+
+
+def add_switched(script):
+    """The kind changed within messages, with enough lent for every kind."""
+    for buffer, room in enumerate(ROOMS):
+        script.lend(buffer, room)
+    add_switched_bytes(script)
+    for kind, other in permutations(KINDS, 2):
+        add_switched_dumps(script, kind, other)
+        add_switched_mark(script, kind, other)
+    script.become(script.kind)
