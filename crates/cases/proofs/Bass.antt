@@ -17,7 +17,7 @@ use Rattle.podbox.specs.Settings.{isValid, freshSettings, freshHeld}
 use Rattle.podbox.specs.Messages.{isHeard, isController, isProgramChange, channelDoes, messageDoes}
 use Rattle.podbox.specs.Whole.{isFramed, messageOrder}
 use Rattle.cases.specs.Case.{Case, AllGiven}
-use Rattle.cases.specs.Bass.{forms, headers, controllers, others, changes, kinds, bass}
+use Rattle.cases.specs.Bass.{forms, headers, controllers, changes, kinds, bass}
 
 -- one table behind the other
 both-given : (xs ys : List Case) → AllGiven xs → AllGiven ys → AllGiven (xs ++ ys)
@@ -35,10 +35,6 @@ controllers-given : AllGiven controllers
 unfolding controllers isKind kindOf numberOf sizeOf deviceOf identityOf takesProgramChange scaleOf applyOf storeRow backOf shownOf numberBy numberFor mOf nextFor rowOf rows effectOf selections selected freshSettings freshHeld soundOf isWritten countRight runningRight waitingRight longIsFull takesOne takesTwo stepOf stepDoes byteOf directOf bodyLength isIdentity hasForm hasProgram furtherTests bodyOrder orderOf orderDoes isValid isHeard isController isProgramChange isOurChannel channelDoes messageDoes isFramed messageOrder
 controllers-given = refl
 
-others-given : AllGiven others
-unfolding others isKind kindOf numberOf sizeOf deviceOf identityOf takesProgramChange scaleOf applyOf storeRow backOf shownOf numberBy numberFor mOf nextFor rowOf rows effectOf selections selected freshSettings freshHeld soundOf isWritten countRight runningRight waitingRight longIsFull takesOne takesTwo stepOf stepDoes byteOf directOf bodyLength isIdentity hasForm hasProgram furtherTests bodyOrder orderOf orderDoes isValid isHeard isController isProgramChange isOurChannel channelDoes messageDoes isFramed messageOrder
-others-given = refl
-
 changes-given : AllGiven changes
 unfolding changes isKind kindOf numberOf sizeOf deviceOf identityOf takesProgramChange scaleOf applyOf storeRow backOf shownOf numberBy numberFor mOf nextFor rowOf rows effectOf selections selected freshSettings freshHeld soundOf isWritten countRight runningRight waitingRight longIsFull takesOne takesTwo stepOf stepDoes byteOf directOf bodyLength isIdentity hasForm hasProgram furtherTests bodyOrder orderOf orderDoes isValid isHeard isController isProgramChange isOurChannel channelDoes messageDoes isFramed messageOrder
 changes-given = refl
@@ -50,4 +46,4 @@ kinds-given = refl
 pub as-requested : AllGiven bass
 as-requested =
     both-given forms _ forms-given
-    (both-given headers _ headers-given (both-given controllers _ controllers-given (both-given others _ others-given (both-given changes _ changes-given kinds-given))))
+    (both-given headers _ headers-given (both-given controllers _ controllers-given (both-given changes _ changes-given kinds-given)))

@@ -130,10 +130,6 @@ controllers =
     at 1 0 50 is (0 ∷ 0 ∷ []) ∷
     at 1 127 50 is (0 ∷ 63 ∷ []) ∷
     scaled BassPod 1 128 is (18 ∷ 0 ∷ []) ∷
-    []
-
-unfoldable pub others : List Case
-others =
     -- every other one is 17, those of a POD too
     scaled BassPod 30 0 is (17 ∷ 0 ∷ []) ∷
     scaled BassPod 62 0 is (17 ∷ 0 ∷ []) ∷
@@ -141,7 +137,8 @@ others =
     scaled BassPod 51 0 is (17 ∷ 0 ∷ []) ∷
     scaled Pod 64 0 is (17 ∷ 0 ∷ []) ∷
     called BassPod (0xB0 ∷ 30 ∷ 0 ∷ []) is (0 ∷ 0 ∷ 17 ∷ []) ∷
-    called BassPod (0xB0 ∷ 12 ∷ 15 ∷ 12 ∷ 16 ∷ []) is (0 ∷ 0 ∷ 3 ∷ 0 ∷ 18 ∷ []) ∷
+    called BassPod (0xB0 ∷ 12 ∷ 15 ∷ []) is (0 ∷ 0 ∷ 3 ∷ []) ∷
+    called BassPod (0xB0 ∷ 12 ∷ 16 ∷ []) is (0 ∷ 0 ∷ 18 ∷ []) ∷
     shown BassPod 62 (zeros (sizeOf BassPod)) is (17 ∷ 0 ∷ []) ∷
     -- back: byte 46 plays no part, and byte 3 holding 16 is 40
     shown BassPod 12 (with BassPod 3 15) is (0 ∷ 15 ∷ []) ∷
@@ -180,4 +177,4 @@ kinds =
     []
 
 abbrev pub bass : List Case
-bass = forms ++ (headers ++ (controllers ++ (others ++ (changes ++ kinds))))
+bass = forms ++ (headers ++ (controllers ++ (changes ++ kinds)))
