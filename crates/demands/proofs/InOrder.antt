@@ -1,13 +1,13 @@
--- A call is refused with a number exactly when that test fails and every earlier one holds: a byte's, and the panel's.
+-- A call is refused with a number exactly when that test fails and every earlier one holds: a byte's, the panel's, scaling and showing back.
 use Prim.Native.Nat.{ℕ, _≤_}
 use mathlib.Core.Bool.{Bool, true, false, cond}
-use mathlib.Core.List.{List, [], map}
-use mathlib.Core.Logic.{_↔_}
+use mathlib.Core.List.{List, [], _∷_, map}
+use mathlib.Core.Logic.{⊎-elim, _↔_}
 use mathlib.Core.Path.{_≡_, refl, sym, ap, _∙_}
 use native.Mathlib.Omega.{arith}
 use lib.ListN.{length, length-take, length-drop}
 use borrow.Author.Tests.{le-leb, leb-true}
-use Rattle.ground.specs.Tests.{Test, tested, FirstToFail, renamed}
+use Rattle.ground.specs.Tests.{Test, test, tested, FirstToFail, renamed}
 use Rattle.ground.specs.Calls.{left}
 use Rattle.ground.proofs.Tests.{by}
 use Rattle.ground.proofs.InOrder.{tested-map, tested-renamed, tested-append, tested-when, tested-failed, tested-exactly}
@@ -19,7 +19,14 @@ use Rattle.controls.specs.Table.{rowOf}
 use Rattle.controls.specs.Refusals.{moveTests}
 use Rattle.controls.specs.Applying.{Changed, changed, applyTests, unchanged, storeRow}
 use Rattle.controls.specs.declared.Change.the-variants as change
+use Rattle.controls.specs.declared.Reading.{Reading}
+use Rattle.controls.specs.declared.Reading.the-variants as reading
+use Rattle.controls.specs.Answers.{refusalOf, valueOf}
+use Rattle.controls.specs.Fields.{numberIn}
+use Rattle.controls.specs.Scaling.{scaleOf}
+use Rattle.controls.specs.Showing.{shownOf, backTests, backOf}
 use Rattle.controls.proofs.Controllers.{applied-tested}
+use Rattle.controls.proofs.Back.{formed, row-shown}
 use Rattle.framing.specs.declared.Receiver.{Receiver}
 use Rattle.framing.specs.Bytes.{stepOf}
 use Rattle.sockets.specs.Framer.{Message, SysEx, TooLong, Channel, Happening, Nothing, Cut, Finished}
@@ -33,13 +40,14 @@ use Rattle.sysex.specs.declared.Answer.the-variants as answer
 use Rattle.sysex.specs.declared.Check.{Check}
 use Rattle.sysex.specs.Numbers.{refused, answerNumber, checkNumber}
 use Rattle.sysex.specs.Judging.{testsOf, judgedBy, bodyOrder, judgeOf}
-use Rattle.sysex.specs.Carrying.{Outcome, Left, refusing, orderDoes}
+use Rattle.sysex.specs.Carrying.{Outcome, Left, heldTest, refusing, orderDoes}
 use Rattle.sysex.proofs.Numbered.{passed-done, done-not-refused}
 use Rattle.podbox.specs.Messages.{isController, channelTests, changeAnswer, controllerDoes, programChangeDoes, channelDoes, messageDoes}
 use Rattle.podbox.specs.Whole.{bodyOf, messageTests, messageOrder}
-use Rattle.podbox.specs.Box.{Took, limit, panel, plainAnswer, boxRules, takeTests, wholeTests, takeOf, wholeOf}
+use Rattle.podbox.specs.Box.{Took, limit, kindTest, panel, plainAnswer, boxRules, takeTests, wholeTests, takeOf, wholeOf}
 use Rattle.podbox.proofs.Taking.{sender}
-use Rattle.demands.specs.Order.{finishTests, byteTests, panelTests}
+use Rattle.costerbloom.specs.Numbers.{numberScale, memoryBack, numberBack}
+use Rattle.demands.specs.Order.{finishTests, byteTests, panelTests, scalingTests, isValue, backingTests}
 
 -- one list of tests in front of an answer that is no refusal
 in-order : (ts : List (Test ℕ)) (given done : Answer) (number : ℕ) → (done ≡ refused number → ⊥) → given ≡ tested ts refused done → (given ≡ refused number) ↔ FirstToFail ts number
@@ -145,3 +153,31 @@ module _ (kindNumber : ℕ) (settings : Settings) (message : List ℕ) (held : H
   panel-order number =
       in-order (panelTests kindNumber settings message held reply) _ _ number
       (done-not-refused (kindOf kindNumber) settings panel (bodyOf message) held number (bodyOrder (bodyOf message)) (passed-done (bodyOf message))) whole-tested
+
+-- Scaling: 32 for the kind, 17, 18. Showing back: 32 for the kind, 30, 17, 19, 40.
+reading-order : (ts : List (Test ℕ)) (given : Reading) (value number : ℕ) → given ≡ tested ts reading.Refused (reading.Value value) → (given ≡ reading.Refused number) ↔ FirstToFail ts number
+reading-order ts given value number e = (
+  (λ f. tested-exactly ts reading.Refused (reading.Value value) number (λ s. let z : _≡_ {A = ℕ} 0 1 = cc in omega arith) (λ m n s. ap refusalOf s) (sym e ∙ f)),
+  (λ f. e ∙ tested-failed reading.Refused (reading.Value value) f),
+)
+
+pub scaling-order : (kindNumber controller value number : ℕ) → (numberScale kindNumber controller value ≡ reading.Refused number) ↔ FirstToFail (scalingTests kindNumber controller value) number
+unfolding numberScale scaleOf
+scaling-order kindNumber controller value number = reading-order (scalingTests kindNumber controller value) _ _ number refl
+
+-- what is shown is a value, or 40
+shown-tested : (kind : Kind) (controller stored : ℕ)
+    → (let x = shownOf (rowOf kind controller) stored in x ≡ tested (test 40 (isValue x) ∷ []) reading.Refused (reading.Value (valueOf x)))
+shown-tested kind controller stored = ⊎-elim (λ s. rw (s .1)) (λ s. rw (s .0)) (row-shown kind controller (formed kind controller) stored)
+
+pub backing-order : (kindNumber controller : ℕ) (held : Held) (number : ℕ) → (numberBack kindNumber controller held ≡ reading.Refused number) ↔ FirstToFail (backingTests kindNumber controller held) number
+unfolding numberBack memoryBack backOf
+backing-order kindNumber controller held number =
+    let kind = kindOf kindNumber in
+    let r = rowOf kind controller in
+    let edit = bytesIn kind panel Edit held in
+    let x = shownOf r (numberIn r edit) in
+    let front = kindTest kindNumber ∷ heldTest kind held ∷ backTests kind r edit in
+    reading-order (backingTests kindNumber controller held) _ (valueOf x) number
+    (ap (tested front reading.Refused) (shown-tested kind controller (numberIn r edit))
+    ∙ sym (tested-append front (test 40 (isValue x) ∷ []) reading.Refused (reading.Value (valueOf x))))

@@ -1,16 +1,19 @@
 -- The order of tests of a whole call: "A call tests 30, 31, 32 in that order, then takes the byte. A finished SysEx is tested 10, 11, 12, 13, 14, 15, 16;
 -- a finished channel message 20, 21, 17, 18, 19."
 use Prim.Native.Nat.{ℕ}
-use mathlib.Core.Bool.{false, cond}
+use mathlib.Core.Bool.{Bool, true, false, cond}
 use mathlib.Core.List.{List, [], _∷_, _++_, map}
 use Rattle.ground.specs.Tests.{Test, test, renamed}
 use Rattle.kinds.specs.declared.Kind.{Kind}
 use Rattle.kinds.specs.Kinds.{kindOf}
 use Rattle.programs.specs.Held.{Held, Edit, bytesIn}
+use Rattle.controls.specs.declared.Reading.{Reading}
+use Rattle.controls.specs.declared.Reading.the-variants as reading
 use Rattle.controls.specs.Table.{rowOf}
 use Rattle.controls.specs.Refusals.{moveTests}
 use Rattle.controls.specs.Scaling.{scaleTests}
-use Rattle.controls.specs.Showing.{backTests}
+use Rattle.controls.specs.Fields.{numberIn}
+use Rattle.controls.specs.Showing.{shownOf, backTests}
 use Rattle.framing.specs.Bytes.{stepOf}
 use Rattle.sockets.specs.Framer.{SysEx, TooLong, Channel, Happening, Nothing, Cut, Finished}
 use Rattle.sockets.specs.Box.{Lent}
@@ -40,11 +43,19 @@ byteTests kindNumber settings socket byte entry =
 abbrev pub panelTests : ℕ → Settings → List ℕ → Held → List ℕ → List (Test ℕ)
 panelTests kindNumber settings message held reply = wholeTests kindNumber settings held reply ++ map (renamed checkNumber) (messageTests (kindOf kindNumber) settings message)
 
--- all tests of scaling, and of showing back but 40, which is what no value gives
+-- all tests of scaling: 32, 17, 18
 abbrev pub scalingTests : ℕ → ℕ → ℕ → List (Test ℕ)
 scalingTests kindNumber controller value = kindTest kindNumber ∷ scaleTests (rowOf (kindOf kindNumber) controller) value
 
+-- a value, and no refusal
+abbrev pub isValue : Reading → Bool
+isValue (reading.Value value) = true
+isValue (reading.Refused number) = false
+
+-- and of showing back: 32, 30, 17, 19, 40; the last fails where no value gives the stored number
 abbrev pub backingTests : ℕ → ℕ → Held → List (Test ℕ)
 backingTests kindNumber controller held =
     let kind = kindOf kindNumber in
-    kindTest kindNumber ∷ heldTest kind held ∷ backTests kind (rowOf kind controller) (bytesIn kind panel Edit held)
+    let r = rowOf kind controller in
+    let edit = bytesIn kind panel Edit held in
+    kindTest kindNumber ∷ heldTest kind held ∷ (backTests kind r edit ++ (test 40 (isValue (shownOf r (numberIn r edit))) ∷ []))
