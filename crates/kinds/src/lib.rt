@@ -10,6 +10,9 @@ pub enum Kind {
 // The bytes of the largest program of any kind: a buffer that serves each of them is as long as this asks.
 pub const LARGEST: usize = 80;
 
+// A number that is no kind's, however many kinds there are.
+pub const NO_KIND: u32 = u32::MAX;
+
 // Whether a number is that of a kind.
 pub fn is_kind(number: u32) -> bool
     ensures { λ r. ⌜ r ≡ isKind number ⌝ }

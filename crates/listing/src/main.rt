@@ -2,6 +2,7 @@
 mod lines;
 
 use framing::Receiver;
+use kinds::NO_KIND;
 use libc::STDERR_FILENO;
 use libc::STDIN_FILENO;
 use libc::STDOUT_FILENO;
@@ -24,14 +25,14 @@ fn main() {
     io::write_all(STDERR_FILENO, b"listing: the kind is pod or bass\n");
 }
 
-// The number of the kind that the program is told: a POD's where there is no word, and 2, which is no kind's, where the
-// words name none.
+// The number of the kind that the program is told: a POD's where there is no word, and no kind's where the words name
+// none.
 fn told() -> u32 {
     let words = os::arg_count();
     match words {
         0 | 1 => 0,
         2 => named(),
-        _ => 2,
+        _ => NO_KIND,
     }
 }
 
@@ -45,7 +46,7 @@ fn named() -> u32 {
     if check::same(&word[..length], b"bass") {
         return 1;
     }
-    2
+    NO_KIND
 }
 
 fn list(kind: u32) {

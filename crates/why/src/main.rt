@@ -8,6 +8,7 @@ ghost use mathlib.Core.Path.{_≡_};
 ghost use lib.ListN.{length};
 ghost use Rattle.why.specs.Kept.{bufferSize, Kept, Reads};
 use kinds::Kind;
+use kinds::NO_KIND;
 use libc::STDERR_FILENO;
 use libc::STDIN_FILENO;
 
@@ -29,14 +30,14 @@ fn main() {
     io::write_all(STDERR_FILENO, b"why: the kind is pod or bass\n");
 }
 
-// The number of the kind that the program is told: a POD's where there is no word, and 2, which is no kind's, where the
-// words name none.
+// The number of the kind that the program is told: a POD's where there is no word, and no kind's where the words name
+// none.
 fn told() -> u32 {
     let words = os::arg_count();
     match words {
         0 | 1 => 0,
         2 => named(),
-        _ => 2,
+        _ => NO_KIND,
     }
 }
 
@@ -50,7 +51,7 @@ fn named() -> u32 {
     if check::same(&word[..length], b"bass") {
         return 1;
     }
-    2
+    NO_KIND
 }
 
 fn tell_input(kind: Kind) {
