@@ -4,7 +4,7 @@
 
 enum { KINDS = 2, NO_KINDS = 4 };
 
-/* Each of these is a kind's number if it is cut. */
+/* One past the kinds, some that are a kind if they are cut, and the highest. */
 static const uint32_t NO_KIND[NO_KINDS] = {2, 256, 65537, 0xFFFFFFFF};
 
 /* What the random calls must know of each kind. */

@@ -162,8 +162,9 @@ static void make_dump(uint8_t *message, size_t length, const uint8_t *request)
     message[length - 1] = 0xF7;
 }
 
-/* Each of the 49 controllers as often as the others, in no order, so that all formulas and effects come up; one in 16
- * is a number that may be in no table, and values run over the whole range, so that each of 17, 18, 19 comes up too. */
+/* Each of a POD's 49 controllers as often as the others, in no order, so that all formulas and effects come up; one in
+ * 16 is a number that may be in no table, and values run over the whole range, so that each of 17, 18, 19 comes up
+ * too. */
 static void make_moves(void)
 {
     static const uint8_t CONTROLLERS[49] = {25, 26, 27, 28, 50, 36, 22, 73, 47, 37, 13, 20, 14, 15, 16, 21, 17, 24, 32,

@@ -27,7 +27,7 @@ _Static_assert(COSTERBLOOM_POD_MEMORY == 2664 && COSTERBLOOM_BASS_POD_MEMORY == 
 _Static_assert(COSTERBLOOM_POD_LONGEST == 5193 && COSTERBLOOM_BASS_POD_LONGEST == 5769, "the longest message");
 _Static_assert(COSTERBLOOM_MEMORY == 2960 && COSTERBLOOM_LONGEST == 5769, "the largest");
 
-/* Each is a kind if it is cut. */
+/* One past the kinds, two that are a kind if they are cut to 8 or 16 bits, and the highest. */
 static const uint32_t no_kinds[] = {2, 256, 65537, 0xFFFFFFFF};
 
 /* The arguments of a call beside the kind, one of them amiss in each row but the first, and the answers of both calls.

@@ -88,7 +88,7 @@ class Player:
 
     def __init__(self):
         self.message = Message()
-        # lent at first "as a POD's", and "the kind's number is 0"
+        # as much is lent at first as a POD wants, and the kind's number is 0
         self.box = Box(POD, MEMORY_ROOM, BUFFER_ROOM)
         # "of memory, of the reply buffer, of receive buffers 0 and 1"
         self.digests = [Digest(buffer) for buffer in (

@@ -33,19 +33,19 @@ edit kind = dumpBody kind Edit (zeros (sizeOf kind))
 abbrev pub every : Kind → List ℕ
 every kind = dumpBody kind All (zeros (allSize kind))
 
--- a controller of a Bass box on an edit buffer of zeros: what scaling gives, and the byte that is then stored
+-- a controller of a Bass box on an edit buffer of zeros: the refusal number of scaling (0: none), its value, and the byte that is then stored
 abbrev pub at : ℕ → ℕ → ℕ → List ℕ
 at controller value place =
     let done = applyOf BassPod controller value (zeros (sizeOf BassPod)) in
-    getD (scaled BassPod controller value) 0 0 ∷ getD (done .edit) place 0 ∷ []
+    scaled BassPod controller value ++ (getD (done .edit) place 0 ∷ [])
 
--- byte 79 of the edit buffer after a program change, where byte 79 of a program was 7
+-- byte 79 of the edit buffer and of a program after a program change, where the program's was 7
 abbrev pub last : ℕ → ℕ → List ℕ
 last program number =
     let held = heldOn BassPod (0xC0 ∷ number ∷ []) fresh (heldWith BassPod (programPlace BassPod program + 79) 7) (blank BassPod) (blank BassPod) in
     getD (held .memory) (editPlace BassPod 0 + 79) 0 ∷ getD (held .memory) (programPlace BassPod program + 79) 0 ∷ []
 
--- the number of a byte F8 with so many bytes stored, buffers of the lengths of another kind, and the number of some kind or of none
+-- what a byte F8 gives where a call brings this number, with so many bytes stored and buffers of a kind's lengths
 abbrev pub byteWith : ℕ → ℕ → Kind → List ℕ
 byteWith kindNumber stored lent =
     answerNumber (takeOf kindNumber freshSettings 0 (openedOf stored 0) 0xF8 (freshHeld lent) (blank lent) (blank lent) .answer) ∷ []
@@ -81,6 +81,7 @@ headers =
     handed BassPod (ended (longer (requestBody BassPod (One 0)))) is (13 ∷ []) ∷
     handed BassPod (ended (requestBody BassPod Edit)) is (2 ∷ []) ∷
     handed BassPod (ended (longer (requestBody BassPod Edit))) is (13 ∷ []) ∷
+    handed BassPod (ended (shorter (requestBody BassPod Edit))) is (12 ∷ []) ∷
     handed BassPod (ended (requestBody BassPod All)) is (2 ∷ []) ∷
     handed BassPod (ended (longer (requestBody BassPod All))) is (13 ∷ []) ∷
     -- "device byte 02": the other unit's is not ours
@@ -98,37 +99,37 @@ headers =
 unfoldable pub controllers : List Case
 controllers =
     -- "Only these controllers: 12>3 and 19>49 as received up to 15; 64>2 by v/64; 13>4, 14>6, 15>7, 16>8, 17>10, 18>11, 1>50 by v/2."
-    at 12 0 3 is (0 ∷ 0 ∷ []) ∷
-    at 12 15 3 is (0 ∷ 15 ∷ []) ∷
+    at 12 0 3 is (0 ∷ 0 ∷ 0 ∷ []) ∷
+    at 12 15 3 is (0 ∷ 15 ∷ 15 ∷ []) ∷
     scaled BassPod 12 16 is (18 ∷ 0 ∷ []) ∷
-    at 19 0 49 is (0 ∷ 0 ∷ []) ∷
-    at 19 15 49 is (0 ∷ 15 ∷ []) ∷
+    at 19 0 49 is (0 ∷ 0 ∷ 0 ∷ []) ∷
+    at 19 15 49 is (0 ∷ 15 ∷ 15 ∷ []) ∷
     scaled BassPod 19 16 is (18 ∷ 0 ∷ []) ∷
-    at 64 0 2 is (0 ∷ 0 ∷ []) ∷
-    at 64 63 2 is (0 ∷ 0 ∷ []) ∷
-    at 64 64 2 is (0 ∷ 1 ∷ []) ∷
-    at 64 127 2 is (0 ∷ 1 ∷ []) ∷
+    at 64 0 2 is (0 ∷ 0 ∷ 0 ∷ []) ∷
+    at 64 63 2 is (0 ∷ 0 ∷ 0 ∷ []) ∷
+    at 64 64 2 is (0 ∷ 1 ∷ 1 ∷ []) ∷
+    at 64 127 2 is (0 ∷ 1 ∷ 1 ∷ []) ∷
     scaled BassPod 64 128 is (18 ∷ 0 ∷ []) ∷
-    at 13 0 4 is (0 ∷ 0 ∷ []) ∷
-    at 13 127 4 is (0 ∷ 63 ∷ []) ∷
+    at 13 0 4 is (0 ∷ 0 ∷ 0 ∷ []) ∷
+    at 13 127 4 is (0 ∷ 63 ∷ 63 ∷ []) ∷
     scaled BassPod 13 128 is (18 ∷ 0 ∷ []) ∷
-    at 14 0 6 is (0 ∷ 0 ∷ []) ∷
-    at 14 127 6 is (0 ∷ 63 ∷ []) ∷
+    at 14 0 6 is (0 ∷ 0 ∷ 0 ∷ []) ∷
+    at 14 127 6 is (0 ∷ 63 ∷ 63 ∷ []) ∷
     scaled BassPod 14 128 is (18 ∷ 0 ∷ []) ∷
-    at 15 0 7 is (0 ∷ 0 ∷ []) ∷
-    at 15 127 7 is (0 ∷ 63 ∷ []) ∷
+    at 15 0 7 is (0 ∷ 0 ∷ 0 ∷ []) ∷
+    at 15 127 7 is (0 ∷ 63 ∷ 63 ∷ []) ∷
     scaled BassPod 15 128 is (18 ∷ 0 ∷ []) ∷
-    at 16 0 8 is (0 ∷ 0 ∷ []) ∷
-    at 16 127 8 is (0 ∷ 63 ∷ []) ∷
+    at 16 0 8 is (0 ∷ 0 ∷ 0 ∷ []) ∷
+    at 16 127 8 is (0 ∷ 63 ∷ 63 ∷ []) ∷
     scaled BassPod 16 128 is (18 ∷ 0 ∷ []) ∷
-    at 17 0 10 is (0 ∷ 0 ∷ []) ∷
-    at 17 127 10 is (0 ∷ 63 ∷ []) ∷
+    at 17 0 10 is (0 ∷ 0 ∷ 0 ∷ []) ∷
+    at 17 127 10 is (0 ∷ 63 ∷ 63 ∷ []) ∷
     scaled BassPod 17 128 is (18 ∷ 0 ∷ []) ∷
-    at 18 0 11 is (0 ∷ 0 ∷ []) ∷
-    at 18 127 11 is (0 ∷ 63 ∷ []) ∷
+    at 18 0 11 is (0 ∷ 0 ∷ 0 ∷ []) ∷
+    at 18 127 11 is (0 ∷ 63 ∷ 63 ∷ []) ∷
     scaled BassPod 18 128 is (18 ∷ 0 ∷ []) ∷
-    at 1 0 50 is (0 ∷ 0 ∷ []) ∷
-    at 1 127 50 is (0 ∷ 63 ∷ []) ∷
+    at 1 0 50 is (0 ∷ 0 ∷ 0 ∷ []) ∷
+    at 1 127 50 is (0 ∷ 63 ∷ 63 ∷ []) ∷
     scaled BassPod 1 128 is (18 ∷ 0 ∷ []) ∷
     -- every other one is 17, those of a POD too
     scaled BassPod 30 0 is (17 ∷ 0 ∷ []) ∷
@@ -173,6 +174,7 @@ kinds =
     handedWith (numberOf BassPod) Pod is (30 ∷ []) ∷
     byteWith (numberOf Pod) 5500 BassPod is (32 ∷ []) ∷
     byteWith (numberOf BassPod) 5500 BassPod is (0 ∷ []) ∷
+    byteWith (numberOf BassPod) 5768 BassPod is (0 ∷ []) ∷
     byteWith (numberOf BassPod) 5769 BassPod is (32 ∷ []) ∷
     []
 

@@ -9,11 +9,12 @@ use borrow.Author.Tests.{eqb-true, lt-leb}
 use Rattle.ground.proofs.Tests.{both, by}
 use Rattle.kinds.specs.declared.Kind.{Kind}
 use Rattle.kinds.specs.declared.Kind.the-variants.{Pod, BassPod}
+use Rattle.kinds.proofs.AnyKind.{at-kind}
 use Rattle.controls.specs.declared.Row.{Row}
 use Rattle.controls.specs.Table.{Entry, find, unlisted, rows, rowOf}
 use Rattle.controls.specs.Refusals.{listedTest}
 use Rattle.controls.specs.Meaning.{controllersOf, isIn}
-use Rattle.controls.proofs.Rows.{allPass, at-kind, row-found}
+use Rattle.controls.proofs.Rows.{allPass, row-found}
 
 abbrev keys : List (Entry Row) → List ℕ
 keys [] = []

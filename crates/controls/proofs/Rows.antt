@@ -12,6 +12,7 @@ use Rattle.ground.proofs.Computed.{every, every-at}
 use Rattle.kinds.specs.declared.Kind.{Kind}
 use Rattle.kinds.specs.declared.Kind.the-variants.{Pod, BassPod}
 use Rattle.kinds.specs.Kinds.{sizeOf}
+use Rattle.kinds.proofs.AnyKind.{eachKind, at-kind}
 use Rattle.controls.specs.declared.Row.{Row}
 use Rattle.controls.specs.Formulas.{m-upper, m-lower, numberBy, numberFor}
 use Rattle.controls.specs.Table.{Entry, find, none, unlisted, rows, rowOf}
@@ -43,14 +44,6 @@ module _ {A : Type 0} (other : A) where
   not-found key (e ∷ es) Known m =
       let p = not-found key es (Known × (key ≡ e .key → ⊥)) m in
       (p .0 .0, rw (ne-eqb key (e .key) (p .0 .1)) (p .1))
-
--- a test of a kind that each kind passes
-abbrev pub eachKind : (Kind → Bool) → Bool
-eachKind test = test Pod && test BassPod
-
-pub at-kind : (test : Kind → Bool) → eachKind test ≡ true → (kind : Kind) → test kind ≡ true
-at-kind test t Pod = both (test Pod) (test BassPod) t .0
-at-kind test t BassPod = both (test Pod) (test BassPod) t .1
 
 -- Facts of every row, each by one test that antt computes over the kinds' lists and the row that is in none.
 abbrev kindPasses : (Kind → Row → Bool) → Kind → Bool

@@ -47,7 +47,7 @@ use Rattle.podbox.specs.Whole.{bodyOf, messageTests, messageOrder}
 use Rattle.podbox.specs.Box.{Took, limit, kindTest, panel, plainAnswer, boxRules, takeTests, wholeTests, takeOf, wholeOf}
 use Rattle.podbox.proofs.Taking.{sender}
 use Rattle.costerbloom.specs.Numbers.{numberScale, memoryBack, numberBack}
-use Rattle.demands.specs.Order.{finishTests, byteTests, panelTests, scalingTests, isValue, backingTests}
+use Rattle.demands.specs.Order.{finishTests, byteTests, panelTests, scalingTests, isValue, showingTests}
 
 -- one list of tests in front of an answer that is no refusal
 in-order : (ts : List (Test ℕ)) (given done : Answer) (number : ℕ) → (done ≡ refused number → ⊥) → given ≡ tested ts refused done → (given ≡ refused number) ↔ FirstToFail ts number
@@ -170,14 +170,14 @@ shown-tested : (kind : Kind) (controller stored : ℕ)
     → (let x = shownOf (rowOf kind controller) stored in x ≡ tested (test 40 (isValue x) ∷ []) reading.Refused (reading.Value (valueOf x)))
 shown-tested kind controller stored = ⊎-elim (λ s. rw (s .1)) (λ s. rw (s .0)) (row-shown kind controller (formed kind controller) stored)
 
-pub backing-order : (kindNumber controller : ℕ) (held : Held) (number : ℕ) → (numberBack kindNumber controller held ≡ reading.Refused number) ↔ FirstToFail (backingTests kindNumber controller held) number
+pub showing-order : (kindNumber controller : ℕ) (held : Held) (number : ℕ) → (numberBack kindNumber controller held ≡ reading.Refused number) ↔ FirstToFail (showingTests kindNumber controller held) number
 unfolding numberBack memoryBack backOf
-backing-order kindNumber controller held number =
+showing-order kindNumber controller held number =
     let kind = kindOf kindNumber in
     let r = rowOf kind controller in
     let edit = bytesIn kind panel Edit held in
     let x = shownOf r (numberIn r edit) in
     let front = kindTest kindNumber ∷ heldTest kind held ∷ backTests kind r edit in
-    reading-order (backingTests kindNumber controller held) _ (valueOf x) number
+    reading-order (showingTests kindNumber controller held) _ (valueOf x) number
     (ap (tested front reading.Refused) (shown-tested kind controller (numberIn r edit))
     ∙ sym (tested-append front (test 40 (isValue x) ∷ []) reading.Refused (reading.Value (valueOf x))))

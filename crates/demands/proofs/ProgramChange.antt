@@ -1,6 +1,6 @@
 -- The program change of a Bass box: what it does, that nothing else does it, and that a POD takes none.
-use Prim.Native.Nat.{ℕ, _+_, _-_, _/_, _≤_, _<_}
-use mathlib.Core.Bool.{Bool, true, false, cond, _&&_, _||_, true≢false}
+use Prim.Native.Nat.{ℕ, _-_, _/_, _≤_, _<_}
+use mathlib.Core.Bool.{true, false, _&&_}
 use mathlib.Core.List.{List}
 use mathlib.Core.Logic.{_⊎_, ⊎-elim, _↔_}
 use mathlib.Core.Path.{_≡_, refl, ap, _∙_}
@@ -10,11 +10,11 @@ use lib.ListN.{length, length-take, length-drop}
 use borrow.Author.Tests.{eqb-true, eq-eqb, ne-eqb, leb-true, le-leb, lt-leb, lt-ltb}
 use Rattle.ground.specs.Tests.{AllHold}
 use Rattle.ground.proofs.Tests.{both, by}
-use Rattle.ground.proofs.InOrder.{tested-cases, tested-passed}
+use Rattle.ground.proofs.InOrder.{tested-cases}
 use Rattle.kinds.specs.declared.Kind.{Kind}
 use Rattle.kinds.specs.declared.Kind.the-variants.{Pod, BassPod}
 use Rattle.kinds.specs.Kinds.{kindOf, sizeOf, takesProgramChange}
-use Rattle.programs.specs.Memory.{programCount, lastProgram, memorySize, programPlace, editPlace}
+use Rattle.programs.specs.Memory.{programCount, memorySize, programPlace, editPlace}
 use Rattle.programs.specs.Held.{Held, One, Edit, bytesIn}
 use Rattle.programs.proofs.Parts.{part-put, part-before, put-before, put-behind, put-length}
 use Rattle.controls.specs.declared.Change.{Change}
@@ -26,11 +26,10 @@ use Rattle.sockets.specs.Framer.{Channel}
 use Rattle.sockets.specs.Box.{lent, took}
 use Rattle.sockets.specs.Promise.{stepDoes}
 use Rattle.sysex.specs.declared.Settings.{Settings}
-use Rattle.sysex.specs.declared.Answer.{Answer}
 use Rattle.sysex.specs.declared.Answer.the-variants.{Stored}
 use Rattle.sysex.specs.Carrying.{Outcome, refusing}
 use Rattle.sysex.proofs.Parts.{program-inside}
-use Rattle.podbox.specs.Messages.{isHeard, isController, isProgramChange, channelTests, changeAnswer, controllerDoes, programChangeDoes, channelDoes, messageDoes}
+use Rattle.podbox.specs.Messages.{isHeard, isController, isProgramChange, channelTests, changeAnswer, programChangeDoes, channelDoes, messageDoes}
 use Rattle.podbox.specs.Box.{takeTests, takeOf}
 use Rattle.podbox.proofs.Taking.{sender}
 use Rattle.demands.specs.ProgramChange.{IsChange, Recalled}

@@ -1,5 +1,5 @@
 -- The order of tests of a whole call: "A call tests 30, 31, 32 in that order, then takes the byte. A finished SysEx is tested 10, 11, 12, 13, 14, 15, 16;
--- a finished channel message 20, 21, 17, 18, 19."
+-- a finished channel message 20, 21, 17, 18, 19." Req 04: "a kind that is neither gives 32, just before 30".
 use Prim.Native.Nat.{ℕ}
 use mathlib.Core.Bool.{Bool, true, false, cond}
 use mathlib.Core.List.{List, [], _∷_, _++_, map}
@@ -53,8 +53,8 @@ isValue (reading.Value value) = true
 isValue (reading.Refused number) = false
 
 -- and of showing back: 32, 30, 17, 19, 40; the last fails where no value gives the stored number
-abbrev pub backingTests : ℕ → ℕ → Held → List (Test ℕ)
-backingTests kindNumber controller held =
+abbrev pub showingTests : ℕ → ℕ → Held → List (Test ℕ)
+showingTests kindNumber controller held =
     let kind = kindOf kindNumber in
     let r = rowOf kind controller in
     let edit = bytesIn kind panel Edit held in

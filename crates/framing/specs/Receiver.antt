@@ -1,4 +1,4 @@
--- A receiver: the ways in which it stands, and when it is sound. `limit` is the most bytes of a SysEx that are stored: 5,192 on this box.
+-- A receiver: the ways in which it stands, and when it is sound. `limit` is the most bytes of a SysEx that are stored: 5,192 on a POD, and the kind's own on any other.
 use Prim.Native.Nat.{ℕ}
 use mathlib.Core.Bool.{Bool, cond, not, _&&_, _||_}
 use lib.Dec.{leb, eqb}
@@ -52,7 +52,7 @@ takesTwo s = isChannel s && not (takesOne s)
 unfoldable pub isWritten : Receiver → Bool
 isWritten r = leb (r .inside) 1 && leb (r .over) 1 && leb (r .held) 1 && (waits r || eqb (r .waiting) 0)
 
--- "A receiver is sound when its stored count is 0 to 5,192,"
+-- "A receiver is sound when its stored count is 0 to 5,192,"; Req 04: "the sound receiver's limits use the kind's own lengths"
 abbrev pub countFits : ℕ → Receiver → Bool
 countFits limit r = leb (r .stored) limit
 

@@ -1,4 +1,4 @@
--- Runs of bytes into a fresh receiver of this box, and what each byte does: one table.
+-- Runs of bytes into a fresh receiver of a POD, which stores up to 5,192, and what each byte does: one table.
 use Prim.Native.Nat.{ℕ, zero, suc, _+_, _-_}
 use mathlib.Core.List.{List, [], _∷_, _++_}
 use lib.ListN.{replicate}

@@ -1,14 +1,23 @@
 -- Laws of what hangs on a kind, for any kind: whoever stands on `kinds` cites these, and looks at no kind.
 use Prim.Native.Nat.{ℕ, zero, suc, _≤_}
-use mathlib.Core.Bool.{true}
+use mathlib.Core.Bool.{Bool, true, _&&_}
 use mathlib.Core.List.{[], _∷_}
 use mathlib.Core.Path.{_≡_, refl}
 use native.Mathlib.Omega.{arith}
 use lib.ListN.{getD}
 use borrow.Author.Tests.{leb-true}
+use Rattle.ground.proofs.Tests.{both}
 use Rattle.kinds.specs.declared.Kind.{Kind}
 use Rattle.kinds.specs.declared.Kind.the-variants.{Pod, BassPod}
 use Rattle.kinds.specs.Kinds.{isKind, kindOf, numberOf, sizeOf, largest, deviceOf, identityOf}
+
+-- a test that each kind passes: what holds of every kind by one test that antt computes
+abbrev pub eachKind : (Kind → Bool) → Bool
+eachKind test = test Pod && test BassPod
+
+pub at-kind : (test : Kind → Bool) → eachKind test ≡ true → (kind : Kind) → test kind ≡ true
+at-kind test t Pod = both (test Pod) (test BassPod) t .0
+at-kind test t BassPod = both (test Pod) (test BassPod) t .1
 
 -- a kind's number is a kind, and that kind
 pub kind-numbered : (kind : Kind) → (isKind (numberOf kind) ≡ true) × (kindOf (numberOf kind) ≡ kind)

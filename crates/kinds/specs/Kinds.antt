@@ -6,12 +6,12 @@ use lib.Dec.{eqb, leb}
 use Rattle.kinds.specs.declared.Kind.{Kind}
 use Rattle.kinds.specs.declared.Kind.the-variants.{Pod, BassPod}
 
--- The numbers by which a call names its kind, 0 and 1: "a kind that is neither gives 32". What such a number is the kind of does not matter.
+-- The numbers by which a call names its kind, 0 and 1: "a kind that is neither gives 32". Of a number that is neither it does not matter which kind it gives.
 unfoldable pub isKind : ℕ → Bool
-isKind number = leb number 1
+isKind kindNumber = leb kindNumber 1
 
 unfoldable pub kindOf : ℕ → Kind
-kindOf number = cond (eqb number 1) BassPod Pod
+kindOf kindNumber = cond (eqb kindNumber 1) BassPod Pod
 
 -- the number of a kind
 unfoldable pub numberOf : Kind → ℕ

@@ -10,6 +10,11 @@ pub enum Kind {
 // The bytes of the largest program of any kind: a buffer that serves each of them is as long as this asks.
 pub const LARGEST: usize = 80;
 
+// The numbers by which a call names its kind.
+pub const POD: u32 = 0;
+
+pub const BASS_POD: u32 = 1;
+
 // A number that is no kind's, however many kinds there are.
 pub const NO_KIND: u32 = u32::MAX;
 

@@ -2,7 +2,9 @@
 mod lines;
 
 use framing::Receiver;
+use kinds::BASS_POD;
 use kinds::NO_KIND;
+use kinds::POD;
 use libc::STDERR_FILENO;
 use libc::STDIN_FILENO;
 use libc::STDOUT_FILENO;
@@ -30,7 +32,7 @@ fn main() {
 fn told() -> u32 {
     let words = os::arg_count();
     match words {
-        0 | 1 => 0,
+        0 | 1 => POD,
         2 => named(),
         _ => NO_KIND,
     }
@@ -41,10 +43,10 @@ fn named() -> u32 {
     let mut word = [0u8; 4];
     let length = os::arg(1, &mut word);
     if check::same(&word[..length], b"pod") {
-        return 0;
+        return POD;
     }
     if check::same(&word[..length], b"bass") {
-        return 1;
+        return BASS_POD;
     }
     NO_KIND
 }

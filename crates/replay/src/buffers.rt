@@ -19,7 +19,7 @@ pub(crate) struct Lent {
     pub(crate) reply: u16,
 }
 
-// As much as a call of a POD needs.
+// As much as a call of a POD needs: what second/REPLAY.md says is lent at first.
 pub(crate) const NEEDED: Lent = Lent {
     memory: 2664,
     receive0: 5193,

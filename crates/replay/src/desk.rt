@@ -24,7 +24,7 @@ pub(crate) struct Desk {
 pub(crate) fn fresh() -> Desk {
     Desk {
         length: 0,
-        kind: 0,
+        kind: kinds::POD,
         settings: podbox::FRESH_SETTINGS,
         lent: buffers::NEEDED,
         receiver0: framing::fresh(),

@@ -47,7 +47,7 @@ runs =
     run (0xF0 ∷ 0x01 ∷ 0xF1 ∷ 0x02 ∷ 0xF7 ∷ []) (quiet 2 ++ Cut ∷ quiet 2) ∷
     -- data bytes with no running status, and F7 with nothing open
     run (0x40 ∷ 0x41 ∷ 0xF7 ∷ []) (quiet 3) ∷
-    -- 5,192 bytes before F7 are a message; with one more it is too long, and a cut is a cut
+    -- on a POD 5,192 bytes before F7 are a message; with one more it is too long, and a cut is a cut
     run (openBytes 5192 ++ 0xF8 ∷ 0xF7 ∷ []) (quiet 5193 ++ Finished (SysEx (openBytes 5192)) ∷ []) ∷
     run (openBytes 5193 ++ 0xF7 ∷ 0xF7 ∷ []) (quiet 5193 ++ Finished TooLong ∷ Nothing ∷ []) ∷
     run (openBytes 5193 ++ 0xF0 ∷ 0x01 ∷ 0xF7 ∷ []) (quiet 5193 ++ Cut ∷ Nothing ∷ Finished (SysEx (0xF0 ∷ 0x01 ∷ [])) ∷ []) ∷

@@ -1,4 +1,5 @@
-// Every controller of every kind over every value and setting, and every byte and half byte: a line of counts and digests for each.
+// Every controller of every kind over every value and setting, and every byte and half byte: a line of counts and
+// digests for each.
 mod buffer;
 mod controllers;
 mod half_bytes;
@@ -37,8 +38,8 @@ fn main() {
         STDOUT_FILENO,
         b"kind\tcontroller\tscaled\tdigest\tapplied\tdigest\tshown\tdigest\n",
     );
-    print_controllers(0);
-    print_controllers(1);
+    print_controllers(kinds::POD);
+    print_controllers(kinds::BASS_POD);
     io::write_all(STDOUT_FILENO, b"halves");
     print_tally(half_bytes::joined_and_split());
     io::write_all(STDOUT_FILENO, b"\n");

@@ -2,7 +2,6 @@
 ghost use mathlib.Core.Path.{_≡_};
 ghost use Prim.Native.Nat.{_≤_, _+_, _*_};
 ghost use lib.ListN.{length};
-ghost use Rattle.kinds.specs.Kinds.{deviceOf};
 ghost use Rattle.programs.specs.Memory.{programCount};
 ghost use Rattle.sysex.specs.Forms.{programOf, versionPlace, dataPlace, dataCount, bodyLength, longest, isIdentity, isOurChannel};
 ghost use Rattle.sysex.specs.Judging.{judgedBy, identityTests, formTests, fieldTests, dataTests, hasProgram, orderOf, formOrder, judgeOf};

@@ -59,7 +59,8 @@ pub struct Refusal {
     pub number: u8,
 }
 
-// What the box answers, by document 01's numbers. A SysEx is stored, answered with so many bytes, or refused.
+// What the box answers, by document 01's numbers. A SysEx is stored, answered with so many bytes, or refused; a program
+// change that is taken is `Stored` too.
 pub enum Answer {
     Taken,
     Stored,

@@ -7,8 +7,10 @@ ghost use mathlib.Core.List.{[], _∷_};
 ghost use mathlib.Core.Path.{_≡_};
 ghost use lib.ListN.{length};
 ghost use Rattle.why.specs.Kept.{bufferSize, Kept, Reads};
+use kinds::BASS_POD;
 use kinds::Kind;
 use kinds::NO_KIND;
+use kinds::POD;
 use libc::STDERR_FILENO;
 use libc::STDIN_FILENO;
 
@@ -35,7 +37,7 @@ fn main() {
 fn told() -> u32 {
     let words = os::arg_count();
     match words {
-        0 | 1 => 0,
+        0 | 1 => POD,
         2 => named(),
         _ => NO_KIND,
     }
@@ -46,10 +48,10 @@ fn named() -> u32 {
     let mut word = [0u8; 4];
     let length = os::arg(1, &mut word);
     if check::same(&word[..length], b"pod") {
-        return 0;
+        return POD;
     }
     if check::same(&word[..length], b"bass") {
-        return 1;
+        return BASS_POD;
     }
     NO_KIND
 }

@@ -1,6 +1,6 @@
 -- The program lies before the edit buffer, and is copied there.
 use denote.Ref.{now}
-use Prim.Native.Nat.{ℕ, _-_, _*_}
+use Prim.Native.Nat.{_-_, _*_}
 use mathlib.Core.List.{[]}
 use mathlib.Core.Path.{ap, _∙_}
 use native.Mathlib.Omega.{arith}

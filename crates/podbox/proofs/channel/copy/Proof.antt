@@ -1,7 +1,7 @@
 -- The first i bytes are copied.
 use denote.Ref.{now}
 use Prim.Native.Nat.{_≤_, _-_}
-use mathlib.Core.Path.{_≡_, refl, sym, ap, _∙_}
+use mathlib.Core.Path.{_≡_, refl, _∙_}
 use native.Mathlib.Omega.{arith}
 use lib.ListN.{length, length-set}
 use Rattle.podbox.proofs.Copying.{copied, copy-begin, copy-turn, copy-end}

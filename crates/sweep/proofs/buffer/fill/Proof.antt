@@ -1,5 +1,6 @@
--- A turn for each place. A place is below 80, so its byte is computed with no overflow.
+-- A turn for each place. A place is below `largest`, so its byte is computed with no overflow.
 use Prim.Native.Nat.{_-_}
+use Rattle.kinds.specs.Kinds.{largest}
 use borrow.Author.Needs.{needs}
 use Rattle.sweep.proofs.buffer.fill.Statement.{statement}
 use Rattle.sweep.proofs.buffer.fill.Tie as tie
@@ -8,7 +9,7 @@ abbrev Inv-loop : tie.InvT-loop
 Inv-loop edit₀ value i₀ edit i = Unit {0}
 
 abbrev μ-loop : tie.MeasureT-loop
-μ-loop edit₀ value i₀ edit i = 80 - i
+μ-loop edit₀ value i₀ edit i = largest - i
 
 pub fill-spec : {M : Type 1} → statement M
 fill-spec =
