@@ -233,24 +233,17 @@ def check_exports(_):
 
 def check_bench_case(bench):
     """Document 01's listing input, with a request on the other socket."""
-    stream = bytes.fromhex('B0 0D 7F F8 0E 40 F0 7E 7F 06 01 F7 C0 05')
-    assert bench.run(stream, POD.ask(0)) == well(POD.identified(),
-                                                 POD.dump(0, bytes(72)))
-    # "v/2: 13>9 .. 14>11"
-    edit = bytearray(72)
-    edit[9], edit[11] = 0x7F // 2, 0x40 // 2
-    assert bench.saved() == bytes(36 * 72) + edit
-
-
-def check_bass_case(bench):
-    """The same, but for its program change, on a Bass POD."""
-    stream = bytes.fromhex('B0 0D 7F F8 0E 40 F0 7E 7F 06 01 F7')
-    assert bench.run(stream, BASS.ask(0)) == well(BASS.identified(),
-                                                  BASS.dump(0, bytes(80)))
-    # "13>4, 14>6 .. by v/2"
-    edit = bytearray(80)
-    edit[4], edit[6] = 0x7F // 2, 0x40 // 2
-    assert bench.saved() == bytes(36 * 80) + edit
+    kind = bench.kind
+    # the program change at its end is 21: on a Bass POD of 37, not of 5
+    change = 'C0 25' if kind.changes else 'C0 05'
+    stream = bytes.fromhex('B0 0D 7F F8 0E 40 F0 7E 7F 06 01 F7' + change)
+    assert bench.run(stream, kind.ask(0)) == well(kind.identified(),
+                                                  kind.dump(0, bench.zero))
+    # "v/2: 13>9 .. 14>11"; "13>4, 14>6 .. by v/2"
+    drive, bass = (4, 6) if kind is BASS else (9, 11)
+    edit = bytearray(kind.size)
+    edit[drive], edit[bass] = 0x7F // 2, 0x40 // 2
+    assert bench.saved() == bytes(PROGRAMS * kind.size) + edit
 
 
 def check_program_change(bench):
@@ -631,15 +624,15 @@ def check_fault(bench):
     assert bench.saved() == bench.some
 
 
-EITHER = (check_program_change, check_other_kind, check_kept, check_refused,
+EITHER = (check_bench_case, check_program_change, check_other_kind,
+          check_kept, check_refused,
           check_apart, check_long, check_mixed, check_unread, check_signal,
           check_signal_when_stuck, check_signal_when_busy, check_power_cut,
           check_seldom, check_waits, check_nothing_stored,
           check_wrong_length, check_cannot_load, check_cannot_open,
           check_cannot_move, check_unplugged, check_cannot_save,
           check_saved_later, check_fault)
-CHECKS = {POD: (check_exports, check_usage, check_bench_case, *EITHER),
-          BASS: (check_bass_case, *EITHER)}
+CHECKS = {POD: (check_exports, check_usage, *EITHER), BASS: EITHER}
 
 
 def out_of_patience(*_):

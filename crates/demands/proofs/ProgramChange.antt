@@ -14,9 +14,8 @@ use Rattle.ground.proofs.InOrder.{tested-cases}
 use Rattle.kinds.specs.declared.Kind.{Kind}
 use Rattle.kinds.specs.declared.Kind.the-variants.{Pod, BassPod}
 use Rattle.kinds.specs.Kinds.{kindOf, sizeOf, takesProgramChange}
-use Rattle.programs.specs.Memory.{programCount, memorySize, programPlace, editPlace}
+use Rattle.programs.specs.Memory.{programCount, memorySize}
 use Rattle.programs.specs.Held.{Held, One, Edit, bytesIn}
-use Rattle.programs.proofs.Parts.{part-put, part-before, put-before, put-behind, put-length}
 use Rattle.controls.specs.declared.Change.{Change}
 use Rattle.controls.specs.declared.Change.the-variants as change
 use Rattle.controls.specs.Applying.{applyOf}
@@ -32,7 +31,8 @@ use Rattle.sysex.proofs.Parts.{program-inside}
 use Rattle.podbox.specs.Messages.{isHeard, isController, isProgramChange, channelTests, changeAnswer, programChangeDoes, channelDoes, messageDoes}
 use Rattle.podbox.specs.Box.{takeTests, takeOf}
 use Rattle.podbox.proofs.Taking.{sender}
-use Rattle.demands.specs.ProgramChange.{IsChange, Recalled}
+use Rattle.demands.specs.EditAlone.{IsChange, Recalled}
+use Rattle.demands.proofs.EditAlone.{edit-put, edit-alone}
 use Rattle.demands.proofs.Passed.{take-passed}
 
 -- what a program change does to what the box holds
@@ -44,19 +44,8 @@ module _ (kind : Kind) (player number : ℕ) (held : Held) (m : memorySize kind 
 
   change-recalls : Recalled kind player number held (programChangeDoes kind player number held)
   change-recalls =
-      let place = editPlace kind player in
-      let size = sizeOf kind in
       let program = bytesIn kind player (One (number - 1)) held in
-      record {
-        stored = refl;
-        none-sent = refl;
-        copied = part-put place size program (held .memory) (omega arith) part-length;
-        programs-stay = λ p h.
-            let inside = program-inside size p h in
-            part-before (programPlace kind p) size place (held .memory) (omega arith) (omega arith) size program;
-        else-stays = λ k. ⊎-elim (put-before place size program (held .memory) (omega arith) part-length k) (put-behind place size program (held .memory) (omega arith) part-length k);
-        length-stays = put-length place size program (held .memory) (omega arith) part-length;
-      }
+      record { stored = refl; none-sent = refl; copied = edit-put kind player held m program part-length; alone = edit-alone kind player held m program part-length }
 
 -- a controller answers 3 or a refusal
 not-stored : (c : Change) → changeAnswer c ≡ Stored → ⊥

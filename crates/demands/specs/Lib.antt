@@ -1,7 +1,7 @@
 pub mod Answered
 pub mod Exactly
 pub mod Order
-pub mod ProgramChange
+pub mod EditAlone
 pub mod Reasons
 pub mod Byte48
 pub mod Told

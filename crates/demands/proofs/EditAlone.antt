@@ -1,0 +1,67 @@
+-- What is put in a player's edit buffer changes it alone; and what a controller that is applied does.
+use Prim.Native.Nat.{ℕ, _≤_}
+use mathlib.Core.List.{List, []}
+use mathlib.Core.Logic.{⊎-elim}
+use mathlib.Core.Path.{_≡_, refl, _∙_}
+use native.Mathlib.Omega.{arith}
+use lib.ListN.{length, length-take, length-drop}
+use Rattle.ground.specs.Calls.{outcome}
+use Rattle.ground.proofs.Tests.{by}
+use Rattle.ground.proofs.InOrder.{tested-cases}
+use Rattle.kinds.specs.declared.Kind.{Kind}
+use Rattle.kinds.specs.Kinds.{sizeOf}
+use Rattle.programs.specs.Memory.{memorySize, programPlace, editPlace}
+use Rattle.programs.specs.Held.{Held, Edit, bytesIn, storeIn}
+use Rattle.programs.proofs.Parts.{part-put, part-before, put-before, put-behind, put-length}
+use Rattle.controls.specs.Table.{rowOf}
+use Rattle.controls.specs.Applying.{Changed, storeRow}
+use Rattle.controls.proofs.Controllers.{apply-cases, store-length}
+use Rattle.sockets.specs.Framer.{Channel}
+use Rattle.sysex.specs.declared.Settings.{Settings}
+use Rattle.sysex.specs.declared.Answer.the-variants.{Applied}
+use Rattle.sysex.specs.Carrying.{Outcome, refusing}
+use Rattle.sysex.proofs.Parts.{program-inside}
+use Rattle.podbox.specs.Messages.{isController, channelTests, changeAnswer, controllerDoes, channelDoes, messageDoes}
+use Rattle.demands.specs.EditAlone.{EditAlone, Moved}
+
+module _ (kind : Kind) (player : ℕ) (held : Held) (m : memorySize kind ≤ length (held .memory)) where
+  module _ (bytes : List ℕ) (e : length bytes ≡ sizeOf kind) where
+    pub edit-put : bytesIn kind player Edit (storeIn kind player Edit bytes held) ≡ bytes
+    edit-put = part-put (editPlace kind player) (sizeOf kind) bytes (held .memory) (omega arith) e
+
+    pub edit-alone : EditAlone kind player held (storeIn kind player Edit bytes held)
+    edit-alone =
+        let place = editPlace kind player in
+        let size = sizeOf kind in
+        record {
+          programs-stay = λ p h.
+              let inside = program-inside size p h in
+              part-before (programPlace kind p) size place (held .memory) (omega arith) (omega arith) size bytes;
+          else-stays = λ k. ⊎-elim (put-before place size bytes (held .memory) (omega arith) e k) (put-behind place size bytes (held .memory) (omega arith) e k);
+          length-stays = put-length place size bytes (held .memory) (omega arith) e;
+        }
+
+  controller-moves : (controller value : ℕ) → controllerDoes kind player controller value held .answer ≡ Applied
+      → Moved kind player controller value held (controllerDoes kind player controller value held)
+  controller-moves controller value =
+      let edit = bytesIn kind player Edit held in
+      let r = rowOf kind controller in
+      let whole : length edit ≡ sizeOf kind = simp (length-take, length-drop) (omega arith) in
+      let same : length (storeRow r value edit) ≡ sizeOf kind = store-length r value edit ∙ whole in
+      let Does : Changed → Outcome = λ l. outcome (changeAnswer (l .answer)) (storeIn kind player Edit (l .edit) held) [] in
+      apply-cases kind controller value edit (λ (l : Changed). Does l .answer ≡ Applied → Moved kind player controller value held (Does l))
+      (λ short. absurd (omega arith))
+      (λ number lo hi e. let z : _≡_ {A = ℕ} 0 1 = cc in absurd (omega arith))
+      (λ o h e. record { none-sent = refl; applied = edit-put (storeRow r value edit) same; alone = edit-alone (storeRow r value edit) same })
+
+  -- A controller that is applied: its number in its bytes of the sender's edit buffer, and nothing else.
+  pub moved : (settings : Settings) (status controller value : ℕ) → (let o = messageDoes kind settings player held (Channel status controller value) in
+      o .answer ≡ Applied → Moved kind player controller value held o)
+  unfolding messageDoes channelDoes
+  moved settings status controller value =
+      let P : Outcome → Type 0 = λ o. o .answer ≡ Applied → Moved kind player controller value held o in
+      tested-cases P (channelTests kind settings status controller) (refusing held) _
+      (λ _. by P (isController status) _ _
+      (λ _. controller-moves controller value)
+      (λ _ e. let z : _≡_ {A = ℕ} 0 1 = cc in absurd (omega arith)))
+      (λ number _ e. let z : _≡_ {A = ℕ} 0 1 = cc in absurd (omega arith))
