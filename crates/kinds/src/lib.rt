@@ -22,14 +22,14 @@ pub const NO_KIND: u32 = u32::MAX;
 pub fn is_kind(number: u32) -> bool
     ensures { λ r. ⌜ r ≡ isKind number ⌝ }
 {
-    number <= 1
+    number <= BASS_POD
 }
 
 // The kind of a number; one that is no kind is refused before anybody asks this.
 pub fn kind_of(number: u32) -> Kind
     ensures { λ r. ⌜ r ≡ kindOf number ⌝ }
 {
-    if number == 1 {
+    if number == BASS_POD {
         return Kind::BassPod;
     }
     Kind::Pod

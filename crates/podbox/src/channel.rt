@@ -1,12 +1,12 @@
 // A finished channel message: 20, 21, then a controller, or a program, into the edit buffer of its sender.
 ghost use mathlib.Core.Path.{_≡_};
 ghost use mathlib.Core.List.{[]};
-ghost use Rattle.ground.specs.Calls.{outcome};
-ghost use Rattle.programs.specs.Held.{heldOf};
-ghost use Rattle.podbox.specs.Messages.{isHeard, isController, isProgramChange, changeAnswer, controllerDoes, programChangeDoes, channelDoes};
 ghost use Prim.Native.Nat.{_≤_, _+_};
 ghost use lib.ListN.{length};
+ghost use Rattle.ground.specs.Calls.{outcome};
 ghost use Rattle.programs.specs.Memory.{programCount, partOf, putPart};
+ghost use Rattle.programs.specs.Held.{heldOf};
+ghost use Rattle.podbox.specs.Messages.{isHeard, isController, isProgramChange, changeAnswer, controllerDoes, programChangeDoes, channelDoes};
 ghost use Rattle.podbox.specs.Private.{HoldsMemory};
 use controls::Change;
 use kinds::Kind;
