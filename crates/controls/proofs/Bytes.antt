@@ -16,10 +16,11 @@ pub length-put : (width place number : ℕ) (edit : List ℕ) → length (putAt 
 length-put zero place number edit = refl
 length-put (suc width) place number edit = length-put width (place + 1) (number / 256) (set edit place (number % 256)) ∙ length-set edit place (number % 256)
 
-narrower : (width place k : ℕ) → Outside (suc width) place k → Outside width (place + 1) k
+-- a byte outside a field is outside what is left of the field, and is not its first
+pub narrower : (width place k : ℕ) → Outside (suc width) place k → Outside width (place + 1) k
 narrower width place k o = ⊎-elim (λ before. inl (omega arith)) (λ behind. inr (omega arith)) o
 
-not-first : (width place k : ℕ) → Outside (suc width) place k → k ≡ place → ⊥
+pub not-first : (width place k : ℕ) → Outside (suc width) place k → k ≡ place → ⊥
 not-first width place k o e = ⊎-elim (λ before. omega arith) (λ behind. omega arith) o
 
 -- only the field's bytes change

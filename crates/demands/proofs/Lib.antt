@@ -8,6 +8,7 @@ pub mod ComesBack
 pub mod InOrder
 pub mod EveryCall
 pub mod Byte48
+pub mod Byte46
 pub mod EditAlone
 pub mod ProgramChange
 pub mod Reasons
