@@ -47,19 +47,19 @@ unfoldable pub wholeNumbers : ℕ → Settings → List ℕ → Held → List �
 wholeNumbers kindNumber settings message held reply = leftNumbers (wholeOf kindNumber settings message held reply)
 
 -- "Scaling may be asked directly": 32 for a number that is no kind, then what the kind's controllers say
-unfoldable pub numberScale : ℕ → ℕ → ℕ → Reading
-numberScale kindNumber controller value = tested (kindTest kindNumber ∷ []) reading.Refused (scaleOf (kindOf kindNumber) controller value)
+unfoldable pub scaleCall : ℕ → ℕ → ℕ → Reading
+scaleCall kindNumber controller value = tested (kindTest kindNumber ∷ []) reading.Refused (scaleOf (kindOf kindNumber) controller value)
 
 unfoldable pub scaleNumber : ℕ → ℕ → ℕ → ℕ
-scaleNumber kindNumber controller value = readingNumber (numberScale kindNumber controller value)
+scaleNumber kindNumber controller value = readingNumber (scaleCall kindNumber controller value)
 
 -- "Back, from the edit buffer", the panel's, where memory is lent: 30 for a short one
 unfoldable pub memoryBack : Kind → ℕ → Held → Reading
 memoryBack kind controller held = tested (heldTest kind held ∷ []) reading.Refused (backOf kind controller (bytesIn kind panel Edit held))
 
 -- and before it 32 for a number that is no kind
-unfoldable pub numberBack : ℕ → ℕ → Held → Reading
-numberBack kindNumber controller held = tested (kindTest kindNumber ∷ []) reading.Refused (memoryBack (kindOf kindNumber) controller held)
+unfoldable pub backCall : ℕ → ℕ → Held → Reading
+backCall kindNumber controller held = tested (kindTest kindNumber ∷ []) reading.Refused (memoryBack (kindOf kindNumber) controller held)
 
 unfoldable pub backNumber : ℕ → ℕ → Held → ℕ
-backNumber kindNumber controller held = readingNumber (numberBack kindNumber controller held)
+backNumber kindNumber controller held = readingNumber (backCall kindNumber controller held)

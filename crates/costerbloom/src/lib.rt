@@ -5,7 +5,7 @@ ghost use mathlib.Core.Path.{_≡_};
 ghost use Rattle.ground.specs.Calls.{left};
 ghost use Rattle.programs.specs.Held.{heldOf};
 ghost use Rattle.sockets.specs.Box.{took};
-ghost use Rattle.costerbloom.specs.Numbers.{settingsOf, takeNumbers, wholeNumbers, numberScale, scaleNumber, memoryBack, numberBack, backNumber};
+ghost use Rattle.costerbloom.specs.Numbers.{settingsOf, takeNumbers, wholeNumbers, scaleCall, scaleNumber, memoryBack, backCall, backNumber};
 use controls::Reading;
 use framing::Receiver;
 use kinds::Kind;
@@ -122,7 +122,7 @@ pub extern "C" fn costerbloom_scale(controller: u32, value: u32, kind: u32) -> u
 
 // The same, told apart by an enum.
 fn scale(controller: u32, value: u32, kind: u32) -> Reading
-    ensures { λ r. ⌜ r ≡ numberScale kind controller value ⌝ }
+    ensures { λ r. ⌜ r ≡ scaleCall kind controller value ⌝ }
 {
     if kinds::is_kind(kind) {
         return controls::scale(controller, value, kinds::kind_of(kind));
@@ -141,7 +141,7 @@ pub extern "C" fn costerbloom_back(controller: u32, kind: u32, memory: &[u8]) ->
 
 // The same, told apart by an enum.
 fn back(controller: u32, kind: u32, memory: &[u8]) -> Reading
-    ensures { λ r. ⌜ r ≡ numberBack kind controller (heldOf (now (memory .entry))) ⌝ }
+    ensures { λ r. ⌜ r ≡ backCall kind controller (heldOf (now (memory .entry))) ⌝ }
 {
     if kinds::is_kind(kind) {
         return shown(controller, kinds::kind_of(kind), memory);

@@ -46,7 +46,7 @@ use Rattle.podbox.specs.Messages.{isController, channelTests, changeAnswer, con
 use Rattle.podbox.specs.Whole.{bodyOf, messageTests, messageOrder}
 use Rattle.podbox.specs.Box.{Took, limit, kindTest, panel, plainAnswer, boxRules, takeTests, wholeTests, takeOf, wholeOf}
 use Rattle.podbox.proofs.Taking.{sender}
-use Rattle.costerbloom.specs.Numbers.{numberScale, memoryBack, numberBack}
+use Rattle.costerbloom.specs.Numbers.{scaleCall, memoryBack, backCall}
 use Rattle.demands.specs.Order.{finishTests, byteTests, panelTests, scalingTests, isValue, showingTests}
 
 -- one list of tests in front of an answer that is no refusal
@@ -161,8 +161,8 @@ reading-order ts given value number e = (
   (λ f. e ∙ tested-failed reading.Refused (reading.Value value) f),
 )
 
-pub scaling-order : (kindNumber controller value number : ℕ) → (numberScale kindNumber controller value ≡ reading.Refused number) ↔ FirstToFail (scalingTests kindNumber controller value) number
-unfolding numberScale scaleOf
+pub scaling-order : (kindNumber controller value number : ℕ) → (scaleCall kindNumber controller value ≡ reading.Refused number) ↔ FirstToFail (scalingTests kindNumber controller value) number
+unfolding scaleCall scaleOf
 scaling-order kindNumber controller value number = reading-order (scalingTests kindNumber controller value) _ _ number refl
 
 -- what is shown is a value, or 40
@@ -170,8 +170,8 @@ shown-tested : (kind : Kind) (controller stored : ℕ)
     → (let x = shownOf (rowOf kind controller) stored in x ≡ tested (test 40 (isValue x) ∷ []) reading.Refused (reading.Value (valueOf x)))
 shown-tested kind controller stored = ⊎-elim (λ s. rw (s .1)) (λ s. rw (s .0)) (row-shown kind controller (formed kind controller) stored)
 
-pub showing-order : (kindNumber controller : ℕ) (held : Held) (number : ℕ) → (numberBack kindNumber controller held ≡ reading.Refused number) ↔ FirstToFail (showingTests kindNumber controller held) number
-unfolding numberBack memoryBack backOf
+pub showing-order : (kindNumber controller : ℕ) (held : Held) (number : ℕ) → (backCall kindNumber controller held ≡ reading.Refused number) ↔ FirstToFail (showingTests kindNumber controller held) number
+unfolding backCall memoryBack backOf
 showing-order kindNumber controller held number =
     let kind = kindOf kindNumber in
     let r = rowOf kind controller in

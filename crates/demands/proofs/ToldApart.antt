@@ -25,7 +25,7 @@ use Rattle.sysex.specs.Numbers.{answerNumber, answerLength}
 use Rattle.sysex.specs.Carrying.{heldTest}
 use Rattle.sysex.proofs.Lengths.{longest-bounds}
 use Rattle.podbox.specs.Box.{kindTest, panel, takeOf, wholeOf}
-use Rattle.costerbloom.specs.Numbers.{packed, readingNumber, takeNumbers, wholeNumbers, numberScale, scaleNumber, memoryBack, numberBack, backNumber}
+use Rattle.costerbloom.specs.Numbers.{packed, readingNumber, takeNumbers, wholeNumbers, scaleCall, scaleNumber, memoryBack, backCall, backNumber}
 use Rattle.demands.specs.Answered.{ByteNumber, PanelNumber}
 use Rattle.demands.specs.Told.{Told, Apart}
 use Rattle.demands.proofs.EveryCall.{every-byte, every-message}
@@ -62,8 +62,8 @@ scaled-apart kind controller value =
     (λ all. (refl, number-low kind controller value (leb-true value (r .highest) (all .1 .1 .1 .0))))
     (λ number _. refl)
 
-pub scale-apart : (kindNumber controller value : ℕ) → Apart (numberScale kindNumber controller value) (scaleNumber kindNumber controller value)
-unfolding scaleNumber numberScale readingNumber
+pub scale-apart : (kindNumber controller value : ℕ) → Apart (scaleCall kindNumber controller value) (scaleNumber kindNumber controller value)
+unfolding scaleNumber scaleCall readingNumber
 scale-apart kindNumber controller value =
     tested-cases (λ (x : Reading). Apart x (readingNumber x)) (kindTest kindNumber ∷ []) reading.Refused (scaleOf (kindOf kindNumber) controller value)
     (λ _. scaled-apart (kindOf kindNumber) controller value)
@@ -75,8 +75,8 @@ shown-apart kind controller edit (reading.Value value) e =
     let low = row-sane kind controller .low in let within = shown-smallest kind controller edit value e .1 .within in (refl, omega arith)
 shown-apart kind controller edit (reading.Refused number) e = refl
 
-pub back-apart : (kindNumber controller : ℕ) (held : Held) → Apart (numberBack kindNumber controller held) (backNumber kindNumber controller held)
-unfolding backNumber numberBack memoryBack readingNumber
+pub back-apart : (kindNumber controller : ℕ) (held : Held) → Apart (backCall kindNumber controller held) (backNumber kindNumber controller held)
+unfolding backNumber backCall memoryBack readingNumber
 back-apart kindNumber controller held =
     let kind = kindOf kindNumber in
     let edit = bytesIn kind panel Edit held in
