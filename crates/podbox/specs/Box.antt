@@ -1,16 +1,17 @@
--- This box: the tests of its calls, what a finished message does, and what its two calls promise.
+-- This box: the tests of its calls, what a finished message does, and what its calls promise.
 use Prim.Native.Nat.{ℕ, _-_, _≤_}
 use mathlib.Core.Bool.{cond}
-use mathlib.Core.List.{List, [], _∷_}
+use mathlib.Core.List.{List, [], _∷_, map}
 use lib.Dec.{eqb, leb}
 use lib.ListN.{length}
-use Rattle.ground.specs.Tests.{Test, test}
+use Rattle.ground.specs.Tests.{Test, test, tested}
 use Rattle.kinds.specs.declared.Kind.{Kind}
 use Rattle.kinds.specs.Kinds.{isKind, kindOf}
 use Rattle.programs.specs.Memory.{memorySize}
 use Rattle.programs.specs.Held.{Held}
 use Rattle.framing.specs.declared.Receiver.{Receiver}
 use Rattle.framing.specs.Receiver.{soundOf}
+use Rattle.sockets.specs.Framer.{Message}
 use Rattle.sockets.specs.Calls.{Finish, FromSocket, FromDirect}
 use Rattle.sockets.specs.Box as any
 use Rattle.sockets.specs.Box.{Said, said, Rules, Lent, lent}
@@ -20,10 +21,12 @@ use Rattle.sysex.specs.declared.Answer.{Answer}
 use Rattle.sysex.specs.declared.Answer.the-variants.{Taken, Cut}
 use Rattle.sysex.specs.Forms.{longest}
 use Rattle.sysex.specs.Numbers.{refused, answerNumber, answerLength}
-use Rattle.sysex.specs.Carrying.{Outcome, Left, heldTest, bufferTest}
+use Rattle.sysex.specs.Carrying.{Outcome, Left, refusing, heldTest, bufferTest}
 use Rattle.podbox.specs.Settings.{isValid}
-use Rattle.podbox.specs.Messages.{messageDoes}
+use Rattle.podbox.specs.declared.Move.{Move}
+use Rattle.podbox.specs.Messages.{controllerDoes, messageDoes}
 use Rattle.podbox.specs.Whole.{handedDoes}
+use Rattle.podbox.specs.Moves.{mostMoves, moveMessage}
 
 -- "At most 5,192 are stored, so 5,193 with F7 is the longest message": the kind's own
 abbrev pub limit : Kind → ℕ
@@ -57,14 +60,47 @@ handedTests kind settings held reply = heldTest kind held ∷ bufferTest kind re
 abbrev pub wholeTests : ℕ → Settings → Held → List ℕ → List (Test ℕ)
 wholeTests kindNumber settings held reply = kindTest kindNumber ∷ handedTests (kindOf kindNumber) settings held reply
 
--- the panel's messages are those of socket 0's player
+-- a list "tests .. 30 and 32": it has neither socket nor reply
+abbrev pub memoryTests : Kind → Settings → ℕ → List (Test ℕ)
+memoryTests kind settings memory = test 30 (leb (memorySize kind) memory) ∷ settingsTest settings ∷ []
+
+-- A list of moves, by how many they are and the lengths of what is lent. "Refusals, tested 33, 34, then 30 and 32: more moves than 256 gives 33; a number
+-- buffer shorter than the list gives 34"; and 32 for the kind stands just before 30
+abbrev pub listTests : ℕ → Settings → ℕ → ℕ → ℕ → List (Test ℕ)
+listTests kindNumber settings count memory numbers =
+    test 33 (leb count mostMoves) ∷ test 34 (leb count numbers) ∷ kindTest kindNumber ∷ memoryTests (kindOf kindNumber) settings memory
+
+abbrev pub movesTests : ℕ → Settings → List Move → Held → List ℕ → List (Test ℕ)
+movesTests kindNumber settings moves held numbers = listTests kindNumber settings (length moves) (length (held .memory)) (length numbers)
+
+-- what a direct call hands over: a whole message, or a list of moves
+pub data Given : Type 0 where
+  Whole : List ℕ → Given
+  Moves : List Move → Given
+
+-- a message that such a call finishes: the panel's as it was handed over, or that of a move
+pub data Delivered : Type 0 where
+  FromPanel : List ℕ → Delivered
+  FromList : Message → Delivered
+
+-- "A message the panel hands over whole is finished at its call", and "each move of a list .. as a message finished at that call"
+abbrev pub handsOf : Settings → Given → List Delivered
+handsOf settings (Whole message) = FromPanel message ∷ []
+handsOf settings (Moves moves) = map (λ (move : Move). FromList (moveMessage settings move)) moves
+
+abbrev pub directTests : ℕ → Settings → Given → Held → List ℕ → List (Test ℕ)
+directTests kindNumber settings (Whole message) held reply = wholeTests kindNumber settings held reply
+directTests kindNumber settings (Moves moves) held numbers = movesTests kindNumber settings moves held numbers
+
+-- the messages of the panel and of lists are those of socket 0's player
 abbrev pub panel : ℕ
 panel = 0
 
--- what a finished message does, from a socket and from the panel
-abbrev pub finishDoes : Kind → Settings → Held → Finish (List ℕ) → Outcome
+-- what a finished message does, from a socket, from the panel and from a list
+abbrev pub finishDoes : Kind → Settings → Held → Finish Delivered → Outcome
 finishDoes kind settings held (FromSocket s m) = messageDoes kind settings (socketNumber s) held m
-finishDoes kind settings held (FromDirect message) = handedDoes kind settings panel message held
+finishDoes kind settings held (FromDirect (FromPanel message)) = handedDoes kind settings panel message held
+finishDoes kind settings held (FromDirect (FromList m)) = messageDoes kind settings panel held m
 
 -- 0 "byte taken, nothing finished", 4 "SysEx cut", and a call that is turned away
 abbrev pub plainAnswer : ℕ → Answer
@@ -75,29 +111,43 @@ abbrev pub only : List (Said Answer) → Said Answer
 only [] = said Taken []
 only (a ∷ rest) = a
 
+-- "the number noted for each move"
+abbrev pub noted : List (Said Answer) → List ℕ
+noted saids = map (λ (a : Said Answer). answerNumber (a .answer)) saids
+
+-- what a direct call says: a list is taken, 0, and the numbers of its moves are written
+abbrev pub reports : Given → List (Said Answer) → Said Answer
+reports (Whole message) saids = only saids
+reports (Moves moves) saids = said Taken (noted saids)
+
+-- how much it has written: a reply of the length that is told, or a number for each move
+abbrev pub extentOf : Given → Answer → ℕ
+extentOf (Whole message) answer = answerLength answer
+extentOf (Moves moves) answer = length moves
+
 -- the rules that the laws of two sockets are about: of a box of some kind, whose calls are put to these tests
-abbrev pub rulesWith : (ℕ → Lent Held → List (Test ℕ)) → (Held → List ℕ → List (Test ℕ)) → Kind → Settings → Rules
+abbrev pub rulesWith : (ℕ → Lent Held → List (Test ℕ)) → (Given → Held → List ℕ → List (Test ℕ)) → Kind → Settings → Rules
 rulesWith tests testsDirect kind settings = record {
   Held = Held;
   Good = λ held. memorySize kind ≤ length (held .memory);
-  Given = List ℕ;
-  Delivered = List ℕ;
+  Given = Given;
+  Delivered = Delivered;
   Code = Answer;
   number = answerNumber;
   count = answerLength;
-  extent = λ message answer. answerLength answer;
+  extent = extentOf;
   plain = plainAnswer;
   limit = limit kind;
   tests = tests;
-  testsDirect = λ message. testsDirect;
-  hands = λ message. message ∷ [];
+  testsDirect = testsDirect;
+  hands = handsOf settings;
   carry = finishDoes kind settings;
-  report = λ message saids. only saids;
+  report = reports;
 }
 
 -- of a box whose calls bring the number of its kind
 abbrev pub boxRules : ℕ → Settings → Rules
-boxRules kindNumber settings = rulesWith (takeTests kindNumber settings) (wholeTests kindNumber settings) (kindOf kindNumber) settings
+boxRules kindNumber settings = rulesWith (takeTests kindNumber settings) (directTests kindNumber settings) (kindOf kindNumber) settings
 
 abbrev pub Took : Type 0
 Took = any.Took Held Answer
@@ -108,4 +158,15 @@ takeOf kindNumber settings socket receiver byte held receive reply = byteOf (box
 
 -- a whole message
 abbrev pub wholeOf : ℕ → Settings → List ℕ → Held → List ℕ → Left
-wholeOf kindNumber settings message held reply = directOf (boxRules kindNumber settings) message held reply
+wholeOf kindNumber settings message held reply = directOf (boxRules kindNumber settings) (Whole message) held reply
+
+-- a list of moves: the reply is the buffer of their numbers
+abbrev pub movesOf : ℕ → Settings → List Move → Held → List ℕ → Left
+movesOf kindNumber settings moves held numbers = directOf (boxRules kindNumber settings) (Moves moves) held numbers
+
+-- whether a list is taken, and what one move does by itself, where memory is lent: 30 for a short one
+unfoldable pub listAnswer : ℕ → Settings → ℕ → ℕ → ℕ → Answer
+listAnswer kindNumber settings count memory numbers = tested (listTests kindNumber settings count memory numbers) refused Taken
+
+unfoldable pub moveDoes : Kind → ℕ → Move → Held → Outcome
+moveDoes kind player move held = tested (heldTest kind held ∷ []) (refusing held) (controllerDoes kind player (move .controller) (move .value) held)

@@ -1,5 +1,6 @@
 pub mod Settings
 pub mod Messages
 pub mod Whole
+pub mod Moves
 pub mod Box
 pub mod Private

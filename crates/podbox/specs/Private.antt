@@ -12,8 +12,11 @@ use Rattle.framing.specs.Bytes.{stepOf}
 use Rattle.sockets.specs.Box.{Rules, Lent, took}
 use Rattle.sockets.specs.Promise.{socketOf, stepDoes}
 use Rattle.sysex.specs.declared.Settings.{Settings}
+use Rattle.sysex.specs.declared.Answer.{Answer}
+use Rattle.sysex.specs.declared.Answer.the-variants.{Taken}
 use Rattle.sysex.specs.Forms.{longest}
-use Rattle.podbox.specs.Box.{Took, limit, readyTests, lentTests, handedTests, plainAnswer, rulesWith}
+use Rattle.sysex.specs.Numbers.{refused}
+use Rattle.podbox.specs.Box.{Took, limit, readyTests, lentTests, handedTests, memoryTests, plainAnswer, rulesWith}
 
 -- as much is lent as a call asks
 abbrev pub HoldsMemory : Kind → List ℕ → Type 0
@@ -34,7 +37,7 @@ Within kind (event.Channel status first second) = Unit {0}
 
 -- the rules behind the test of the kind
 abbrev pub kindRules : Kind → Settings → Rules
-kindRules kind settings = rulesWith (lentTests kind settings) (handedTests kind settings) kind settings
+kindRules kind settings = rulesWith (lentTests kind settings) (λ given. handedTests kind settings) kind settings
 
 -- the last tests of a byte call, and the byte
 unfoldable pub readyDoes : Kind → Settings → ℕ → ℕ → Lent Held → Took
@@ -42,3 +45,7 @@ readyDoes kind settings player byte entry =
     tested (readyTests kind settings (entry .receiver))
     (λ number. took (entry .receiver) (plainAnswer number) (entry .held) (entry .receive) (entry .reply))
     (stepDoes (kindRules kind settings) (socketOf player) byte entry (stepOf (limit kind) (entry .receiver) byte))
+
+-- the last tests of a list of moves
+unfoldable pub kindAnswer : Kind → Settings → ℕ → Answer
+kindAnswer kind settings memory = tested (memoryTests kind settings memory) refused Taken

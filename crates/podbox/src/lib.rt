@@ -1,11 +1,15 @@
-// The box: a whole message from the panel, the reason for its number, and one byte on one socket.
+// The box: a whole message from the panel, the reason for its number, a move of a list, and one byte on one socket.
 mod channel;
+mod moves;
 mod panel;
 mod settings;
 mod socket;
 mod why;
 
 use framing::Receiver;
+pub use moves::MOST_MOVES;
+pub use moves::list_answer;
+pub use moves::make_move;
 pub use panel::whole_message;
 pub use settings::Buffer;
 pub use settings::FRESH_SETTINGS;
@@ -21,4 +25,11 @@ pub use why::reason;
 pub struct Took {
     pub receiver: Receiver,
     pub answer: Answer,
+}
+
+// A move of a list: a controller, and a value for it.
+#[repr(C)]
+pub struct Move {
+    pub controller: u8,
+    pub value: u8,
 }

@@ -3,7 +3,7 @@ ghost use mathlib.Core.Path.{_≡_};
 ghost use Rattle.ground.specs.Calls.{left, leaves};
 ghost use Rattle.programs.specs.Held.{heldOf};
 ghost use Rattle.podbox.specs.Whole.{isFramed, handedDoes};
-ghost use Rattle.podbox.specs.Box.{wholeOf};
+ghost use Rattle.podbox.specs.Box.{Whole, wholeOf};
 ghost use Rattle.podbox.specs.Private.{HoldsMemory, HasRoom, kindRules};
 ghost use Rattle.sockets.specs.Promise.{directOf};
 use crate::settings;
@@ -34,7 +34,7 @@ fn handed(
     memory: &mut [u8],
     reply: &mut [u8],
 ) -> Answer
-    ensures { λ r. ⌜ left r (heldOf (now (memory .exit))) (now (reply .exit)) ≡ directOf (kindRules kind settings) (now (message .entry)) (heldOf (now (memory .entry))) (now (reply .entry)) ⌝ }
+    ensures { λ r. ⌜ left r (heldOf (now (memory .exit))) (now (reply .exit)) ≡ directOf (kindRules kind settings) (Whole (now (message .entry))) (heldOf (now (memory .entry))) (now (reply .entry)) ⌝ }
 {
     if memory.len() < programs::memory_size(kind) {
         return sysex::refused(30);

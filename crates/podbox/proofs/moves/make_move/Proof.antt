@@ -1,0 +1,37 @@
+-- 30, then the controller.
+use native.Mathlib.Omega.{arith}
+use Rattle.ground.proofs.Tests.{tests}
+use borrow.Author.Tests.{le-leb}
+use borrow.Author.Needs.{needs}
+use Rattle.podbox.specs.Box.{moveDoes}
+use Rattle.podbox.proofs.moves.make_move.Statement.{statement}
+use Rattle.podbox.proofs.moves.make_move.Tie as tie
+
+returns : tie.Need-returns
+unfolding moveDoes
+returns c =
+    let short = rw (c .before .before .memory-size .ensures) at (c .before .if1 .taken) in
+    search (tests, short, c .refused .ensures)
+
+controller-requires : tie.Need-controller-requires
+controller-requires c κs =
+    let holds = rw (c .before .before .memory-size .ensures) at (c .before .if1 .left) in
+    omega arith
+
+returns-2 : tie.Need-returns-2
+unfolding moveDoes
+returns-2 c =
+    let k = c .before .before .before .before in
+    let holds = rw (k .before .memory-size .ensures) at (k .if1 .left) in
+    rw (le-leb _ _ holds) (c .before .before .controller .ensures)
+
+pub make-move-spec : {M : Type 1} → statement M
+make-move-spec =
+    tie.close
+    (tie.spec
+    (λ c κs. search needs)
+    (λ c κs. search needs)
+    returns
+    controller-requires
+    (λ c. search needs)
+    returns-2)

@@ -1,0 +1,61 @@
+// A list of moves: whether it is taken, and one move of it.
+ghost use mathlib.Core.Path.{_≡_};
+ghost use mathlib.Core.List.{[]};
+ghost use Rattle.ground.specs.Calls.{outcome};
+ghost use Rattle.programs.specs.Held.{heldOf};
+ghost use Rattle.podbox.specs.Box.{listAnswer, moveDoes};
+ghost use Rattle.podbox.specs.Private.{kindAnswer};
+use crate::Move;
+use crate::channel;
+use crate::settings;
+use kinds::Kind;
+use sysex::Answer;
+use sysex::Settings;
+
+// The most moves that a list has.
+pub const MOST_MOVES: usize = 256;
+
+// What a list of so many moves is answered, by the lengths of memory and of the buffer for its numbers.
+pub fn list_answer(
+    count: usize,
+    kind: u32,
+    settings: Settings,
+    memory: usize,
+    numbers: usize,
+) -> Answer
+    ensures { λ r. ⌜ r ≡ listAnswer kind settings count memory numbers ⌝ }
+{
+    if MOST_MOVES < count {
+        return sysex::refused(33);
+    }
+    if numbers < count {
+        return sysex::refused(34);
+    }
+    if kinds::is_kind(kind) {
+        return kind_answer(kinds::kind_of(kind), settings, memory);
+    }
+    sysex::refused(32)
+}
+
+// 30 and 32, behind the test of the kind.
+fn kind_answer(kind: Kind, settings: Settings, memory: usize) -> Answer
+    ensures { λ r. ⌜ r ≡ kindAnswer kind settings memory ⌝ }
+{
+    if memory < programs::memory_size(kind) {
+        return sysex::refused(30);
+    }
+    if settings::are_valid(settings) {
+        return Answer::Taken;
+    }
+    sysex::refused(32)
+}
+
+// A move into a player's edit buffer.
+pub fn make_move(one: Move, player: u32, kind: Kind, memory: &mut [u8]) -> Answer
+    ensures { λ r. ⌜ outcome r (heldOf (now (memory .exit))) [] ≡ moveDoes kind player one (heldOf (now (memory .entry))) ⌝ }
+{
+    if memory.len() < programs::memory_size(kind) {
+        return sysex::refused(30);
+    }
+    channel::controller(one.controller, one.value, player, kind, memory)
+}
