@@ -17,7 +17,8 @@ use Rattle.sysex.specs.declared.Settings.{Settings}
 use Rattle.sysex.specs.declared.Answer.{Answer}
 use Rattle.sysex.specs.Numbers.{answerNumber, answerLength}
 use Rattle.sysex.specs.Carrying.{heldTest}
-use Rattle.podbox.specs.Box.{kindTest, panel, takeOf, wholeOf}
+use Rattle.podbox.specs.declared.Move.{Move}
+use Rattle.podbox.specs.Box.{kindTest, panel, takeOf, wholeOf, movesOf}
 
 -- the settings, each a number of its own
 abbrev pub settingsOf : ℕ → ℕ → ℕ → ℕ → ℕ → ℕ → Settings
@@ -33,7 +34,7 @@ unfoldable pub readingNumber : Reading → ℕ
 readingNumber (reading.Value value) = valueOf (reading.Value value)
 readingNumber (reading.Refused number) = 65536 + refusalOf (reading.Refused number)
 
--- what `takeOf` and `wholeOf` leave, the answer as a number
+-- what `takeOf`, `wholeOf` and `movesOf` leave, the answer as a number
 abbrev pub tookNumbers : Took Held Answer → Took Held ℕ
 tookNumbers t = took (t .receiver) (packed (t .answer)) (t .held) (t .receive) (t .reply)
 
@@ -45,6 +46,9 @@ leftNumbers l = left (packed (l .answer)) (l .held) (l .reply)
 
 unfoldable pub wholeNumbers : ℕ → Settings → List ℕ → Held → List ℕ → Left Held ℕ
 wholeNumbers kindNumber settings message held reply = leftNumbers (wholeOf kindNumber settings message held reply)
+
+unfoldable pub movesNumbers : ℕ → Settings → List Move → Held → List ℕ → Left Held ℕ
+movesNumbers kindNumber settings moves held numbers = leftNumbers (movesOf kindNumber settings moves held numbers)
 
 -- "Scaling may be asked directly": 32 for a number that is no kind, then what the kind's controllers say
 unfoldable pub scaleCall : ℕ → ℕ → ℕ → Reading

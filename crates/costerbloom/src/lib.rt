@@ -1,4 +1,5 @@
 // The C interface: the box on numbers and byte slices. include/costerbloom.h declares these four functions.
+mod moves;
 mod numbers;
 
 ghost use mathlib.Core.Path.{_≡_};

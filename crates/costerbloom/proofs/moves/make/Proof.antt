@@ -1,0 +1,30 @@
+-- The number that is noted is that of what the move did.
+use denote.Ref.{now}
+use mathlib.Core.Path.{ap}
+use lib.ListN.{set}
+use Rattle.sysex.specs.Carrying.{Outcome}
+use Rattle.sysex.specs.Numbers.{answerNumber}
+use Rattle.costerbloom.specs.Private.{desk, makeOf}
+use borrow.Author.Needs.{needs}
+use Rattle.costerbloom.proofs.moves.make.Statement.{statement}
+use Rattle.costerbloom.proofs.moves.make.Tie as tie
+
+returns : tie.Need-returns
+unfolding makeOf
+returns c =
+    let k = c .before .before .before in
+    let a = k .before .before .before .before .before .args in
+    rw (← k .before .before .kind-of .ensures, c .answer-number .ensures)
+    (ap (λ (o : Outcome). desk (o .held .memory) (set (now (a .numbers)) (a .place) (answerNumber (o .answer)))) (k .make-move .ensures))
+
+pub make-spec : {M : Type 1} → statement M
+make-spec =
+    tie.close
+    (tie.spec
+    (λ c κs. search needs)
+    (λ c κs. search needs)
+    (λ c κs. search needs)
+    (λ c. search needs)
+    (λ c. search needs)
+    (λ c. search needs)
+    returns)

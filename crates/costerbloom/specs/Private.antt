@@ -1,0 +1,39 @@
+-- What the private functions of a list of moves say to its walk. No promise rests on it.
+use Prim.Native.Nat.{ℕ, _+_}
+use mathlib.Core.Bool.{cond}
+use mathlib.Core.List.{List, [], _∷_}
+use lib.Dec.{eqb}
+use lib.ListN.{set}
+use Rattle.kinds.specs.Kinds.{kindOf}
+use Rattle.programs.specs.Held.{heldOf}
+use Rattle.sysex.specs.declared.Settings.{Settings}
+use Rattle.sysex.specs.Numbers.{answerNumber}
+use Rattle.podbox.specs.declared.Move.{Move}
+use Rattle.podbox.specs.Box.{panel, listAnswer, moveDoes}
+use Rattle.costerbloom.specs.declared.moves.Allowed.{Allowed}
+use Rattle.costerbloom.specs.Numbers.{packed}
+
+-- how many moves of a list are made, all or none, and what the call answers
+unfoldable pub allowedOf : ℕ → Settings → ℕ → ℕ → ℕ → Allowed
+allowedOf kindNumber settings count memory numbers =
+    let answer = packed (listAnswer kindNumber settings count memory numbers) in
+    record { count = cond (eqb answer 0) count 0; answer = answer }
+
+-- what a list changes
+pub record Desk : Type 0 where
+  pub memory : List ℕ
+  pub numbers : List ℕ
+
+abbrev pub desk : List ℕ → List ℕ → Desk
+desk memory numbers = record { memory = memory; numbers = numbers }
+
+-- the move at a place of the list, and its number
+unfoldable pub makeOf : ℕ → ℕ → Move → Desk → Desk
+makeOf kindNumber place one d =
+    let done = moveDoes (kindOf kindNumber) panel one (heldOf (d .memory)) in
+    desk (done .held .memory) (set (d .numbers) place (answerNumber (done .answer)))
+
+-- moves from a place of the list on
+abbrev pub makeAll : ℕ → ℕ → List Move → Desk → Desk
+makeAll kindNumber place [] d = d
+makeAll kindNumber place (one ∷ moves) d = makeAll kindNumber (place + 1) moves (makeOf kindNumber place one d)
