@@ -26,7 +26,7 @@
 extern "C" {
 #endif
 
-/* The kinds. Any other number is refused with 32, before all else is tested. */
+/* The kinds. Any other number is refused with 32, before all else is tested but the length of a list (33, 34). */
 enum { COSTERBLOOM_POD = 0, COSTERBLOOM_BASS_POD = 1 };
 
 /* The lengths to lend follow from a program's size: 36 programs and the edit buffer; the dump of all programs, two half
@@ -55,21 +55,29 @@ typedef struct {
     uint8_t inside, over, running, held, waiting;
 } costerbloom_receiver;
 
+/* A knob's move, and how many of them one list may have. Either number of a move may be anything up to 255. */
+typedef struct {
+    uint8_t controller, value;
+} costerbloom_move;
+
+enum { COSTERBLOOM_MOST_MOVES = 256 };
+
 /* One byte that came on socket 0 or 1. Gives a number in bits 0 to 7, the reply length in bits 8 to 23:
  *
- *    0  byte taken                                16  a data byte above 0x0F
- *    1  dump stored; on a Bass POD also a         17  controller not in the kind's table
- *       program change of 1 to 36: program 0      18  controller value out of range
- *       to 35 is now in the edit buffer           19  its effect is not selected (never on a Bass POD)
- *    2  reply written                             20  channel message on another channel, not omni
- *    3  controller applied                        21  channel message other than a controller, or, on a
- *    4  SysEx cut                                     Bass POD, than a program change of 1 to 36
- *   10  SysEx too long                            22  identity request for another channel, not omni
- *   11  not ours, or the other kind's             30  a lent buffer too short
- *   12  opcode or type unknown or missing         31  socket not 0 or 1
- *   13  wrong length                              32  a kind that is none (tested before 30); receiver
- *   14  program above 0x23                            not sound, or a setting out of range (tested
- *   15  version not 0                                 after 31)
+ *    0  byte taken                                17  controller not in the kind's table
+ *    1  dump stored; on a Bass POD also a         18  controller value out of range
+ *       program change of 1 to 36: program 0      19  its effect is not selected (never on a Bass POD)
+ *       to 35 is now in the edit buffer           20  channel message on another channel, not omni
+ *    2  reply written                             21  channel message other than a controller, or, on a
+ *    3  controller applied                            Bass POD, than a program change of 1 to 36
+ *    4  SysEx cut                                 22  identity request for another channel, not omni
+ *   10  SysEx too long                            30  a lent buffer too short
+ *   11  not ours, or the other kind's             31  socket not 0 or 1
+ *   12  opcode or type unknown or missing         32  a kind that is none (tested before 30); receiver
+ *   13  wrong length                                  not sound, or a setting out of range (tested
+ *   14  program above 0x23                            after 31)
+ *   15  version not 0                             33  more than 256 moves (of costerbloom_moves alone)
+ *   16  a data byte above 0x0F                    34  a number buffer shorter than the list (the same)
  *
  * 10, 13 and 30 go by the kind's own lengths, and so does 32: a sound receiver has at most 5,192 bytes stored on a POD,
  * 5,768 on a Bass POD. After 2, send the first `reply length` bytes of the reply buffer; after any other number the
@@ -85,6 +93,32 @@ uint64_t costerbloom_take(costerbloom_receiver *receiver, uint32_t socket, uint8
 uint64_t costerbloom_whole(const uint8_t *message, size_t message_length, uint32_t kind,
     uint8_t channel, uint8_t omni, uint8_t revision0, uint8_t revision1, uint8_t revision2, uint8_t revision3,
     uint8_t *memory, size_t memory_length, uint8_t *reply, size_t reply_length);
+
+/* A list of moves, a scene of a lighting desk, in one call with no socket and no receiver. The moves are made one after
+ * the other, each as the message B0 + channel, controller, value on a socket. So a move sees what those before it have
+ * stored (on a POD a move of controller 19 selects the effect for those behind it), and one that is refused changes
+ * nothing and does not stop the list. `numbers` has a byte for each move; there stands its number, the first of 17, 18
+ * and 19 that is so:
+ *
+ *    3  controller applied
+ *   17  controller not in the kind's table, or above 127
+ *   18  value out of range, or above 127
+ *   19  its effect is not selected (never on a Bass POD)
+ *
+ * Gives 0 where the list was taken, whatever the numbers of its moves; what is lent behind them keeps its bytes. Else
+ * gives the first of these that is so, and nothing at all has changed, no byte of `numbers` either:
+ *
+ *   33  more than 256 moves
+ *   34  numbers_length below count
+ *   32  a kind that is none
+ *   30  memory too short
+ *   32  a setting out of range
+ *
+ * Bits 8 and up are 0. The moves are on the box's own channel, so 20 cannot come; the other settings are only tested.
+ * An empty list is taken, with an empty number buffer too; neither pointer is null then. */
+uint64_t costerbloom_moves(const costerbloom_move *moves, size_t count, uint32_t kind,
+    uint8_t channel, uint8_t omni, uint8_t revision0, uint8_t revision1, uint8_t revision2, uint8_t revision3,
+    uint8_t *memory, size_t memory_length, uint8_t *numbers, size_t numbers_length);
 
 /* The number that a controller of the kind stores for a value, whatever memory holds: the formula's, raised on a POD
  * for 51 to at least 200, for 58 to at least 150 and for 54 to at least 1. Below 65536, or 65536 + the refusal: 32 for
