@@ -1,4 +1,5 @@
-/* The record costerbloom_receiver: the library and the header place its fields alike. Says nothing where they do. */
+/* The records costerbloom_receiver and costerbloom_move: the library and the header place their fields alike. Says
+ * nothing where they do. */
 #include <costerbloom.h>
 
 #include "report.h"
@@ -11,6 +12,11 @@ _Static_assert(offsetof(costerbloom_receiver, over) == 3, "over");
 _Static_assert(offsetof(costerbloom_receiver, running) == 4, "running");
 _Static_assert(offsetof(costerbloom_receiver, held) == 5, "held");
 _Static_assert(offsetof(costerbloom_receiver, waiting) == 6, "waiting");
+
+_Static_assert(sizeof(costerbloom_move) == 2 && sizeof(costerbloom_move[3]) == 6, "size of a move, and of a list");
+_Static_assert(_Alignof(costerbloom_move) == 1, "alignment of a move");
+_Static_assert(offsetof(costerbloom_move, controller) == 0, "controller");
+_Static_assert(offsetof(costerbloom_move, value) == 1, "value");
 
 enum { FIELD_BYTES = 7, BESIDE = 8, UNTOUCHED = 0xA5 };
 
@@ -35,6 +41,24 @@ static const struct {
     {"F0 and 5768 bytes on a Bass POD", COSTERBLOOM_BASS_POD, 0xF0, 0, 5768, {0x88, 0x16, 1, 1, 0, 0, 0}},
 };
 
+/* A list for a POD, and what becomes of each move: its number, and the byte of the edit buffer that holds its value
+ * where it was applied, else 0 ("v: 4>18 44>19 45>20 7>22", "12>8"). The same numbers come as controllers and as
+ * values: a field that is read from another place gives another number, or stores something else. */
+enum { APPLIED = 3, NO_CONTROLLER = 17, OUT_OF_RANGE = 18, MOVES = 6 };
+
+static const struct {
+    const char *fed;
+    costerbloom_move move;
+    uint8_t number, place;
+} scene[MOVES] = {
+    {"4 at 44", {4, 44}, APPLIED, 18},
+    {"44 at 4", {44, 4}, APPLIED, 19},
+    {"45 at 200", {45, 200}, OUT_OF_RANGE, 20},
+    {"200 at 45", {200, 45}, NO_CONTROLLER, 20},
+    {"7 at 12", {7, 12}, APPLIED, 22},
+    {"12 at 7", {12, 7}, APPLIED, 8},
+};
+
 /* The bytes beside the record show whether the library takes it for a longer one. */
 static struct {
     uint8_t before[BESIDE];
@@ -42,12 +66,33 @@ static struct {
     uint8_t after[BESIDE];
 } lent;
 
+/* The same of a list and of its numbers. The list is at an odd place, as its alignment allows. */
+static struct {
+    _Alignas(2) uint8_t before[BESIDE + 1];
+    costerbloom_move moves[MOVES];
+    uint8_t between[BESIDE], numbers[MOVES], after[BESIDE];
+} listed;
+
 static uint8_t memory[COSTERBLOOM_MEMORY], receive[COSTERBLOOM_LONGEST], reply[COSTERBLOOM_LONGEST];
 
 static void take(uint8_t byte, uint32_t kind)
 {
     costerbloom_take(&lent.receiver, 0, byte, kind, 0, 0, 0, 0, 0, 0, memory, sizeof memory, receive, sizeof receive,
         reply, sizeof reply);
+}
+
+static void paint(void *lending, size_t length)
+{
+    for (size_t place = 0; place < length; place++)
+        ((uint8_t *)lending)[place] = UNTOUCHED;
+}
+
+static _Bool is_painted(const uint8_t *bytes, size_t length)
+{
+    for (size_t place = 0; place < length; place++)
+        if (bytes[place] != UNTOUCHED)
+            return 0;
+    return 1;
 }
 
 static _Bool differs(const char *fed, const char *what)
@@ -67,9 +112,33 @@ static _Bool holds_another(const char *fed, const uint8_t *record)
     for (int place = 0; place < FIELD_BYTES; place++)
         if (bytes[place] != record[place])
             another = differs(fed, names[place]);
-    for (int place = 0; place < BESIDE; place++)
-        if (lent.before[place] != UNTOUCHED || lent.after[place] != UNTOUCHED)
-            another = differs(fed, "a byte beside it");
+    if (!is_painted(lent.before, sizeof lent.before) || !is_painted(lent.after, sizeof lent.after))
+        another = differs(fed, "a byte beside it");
+    return another;
+}
+
+static void move_all(void)
+{
+    paint(&listed, sizeof listed);
+    for (size_t move = 0; move < MOVES; move++)
+        listed.moves[move] = scene[move].move;
+    costerbloom_moves(listed.moves, MOVES, COSTERBLOOM_POD, 0, 0, 0, 0, 0, 0, memory, sizeof memory, listed.numbers,
+        sizeof listed.numbers);
+}
+
+static _Bool reads_another(void)
+{
+    _Bool another = 0;
+    const uint8_t *edit = memory + COSTERBLOOM_POD_MEMORY - COSTERBLOOM_POD_PROGRAM;
+    for (size_t move = 0; move < MOVES; move++) {
+        if (listed.numbers[move] != scene[move].number)
+            another = differs(scene[move].fed, "number");
+        if (edit[scene[move].place] != (scene[move].number == APPLIED ? scene[move].move.value : 0))
+            another = differs(scene[move].fed, "what it stores");
+    }
+    if (!is_painted(listed.before, sizeof listed.before) || !is_painted(listed.between, sizeof listed.between) ||
+        !is_painted(listed.after, sizeof listed.after))
+        another = differs("a list of moves", "a byte beside it");
     return another;
 }
 
@@ -77,13 +146,14 @@ int main(void)
 {
     _Bool wrong = 0;
     for (size_t row = 0; row < sizeof cases / sizeof *cases; row++) {
+        paint(&lent, sizeof lent);
         lent.receiver = (costerbloom_receiver){0};
-        for (int place = 0; place < BESIDE; place++)
-            lent.before[place] = lent.after[place] = UNTOUCHED;
         take(cases[row].status, cases[row].kind);
         for (int time = 0; time < cases[row].times; time++)
             take(cases[row].data, cases[row].kind);
         wrong |= holds_another(cases[row].fed, cases[row].record);
     }
+    move_all();
+    wrong |= reads_another();
     return wrong;
 }

@@ -4,7 +4,7 @@
 
 #include "report.h"
 
-enum { MOST = 2048, PAINT = 0xA5, STORED = 1, APPLIED = 3, SELECTOR = 46 };
+enum { MOST = 2048, PAINT = 0xA5, STORED = 1, APPLIED = 3, SELECTOR = 46, SELECTING = 19 };
 
 static const struct kind {
     uint32_t number;
@@ -21,9 +21,13 @@ static uint8_t stack[4 * MOST] __attribute__((aligned(16)));
 static uint8_t memory[COSTERBLOOM_MEMORY], receive[COSTERBLOOM_LONGEST], reply[COSTERBLOOM_LONGEST];
 static costerbloom_receiver receiver;
 
-/* The kind that is tried, and what its calls did: moves that were applied, dumps and program changes. */
+static costerbloom_move list[COSTERBLOOM_MOST_MOVES];
+static uint8_t numbers[COSTERBLOOM_MOST_MOVES];
+
+/* The kind that is tried, and what its calls did: moves that were applied, by bytes and in lists, dumps and program
+ * changes. */
 static const struct kind *kind;
-static int applied, stored;
+static int applied, listed, stored;
 
 /* Calls a function with the stack's end at `top`. */
 void on_stack(void (*calls)(void), uint8_t *top);
@@ -60,6 +64,21 @@ static void moves(void)
         stored += take(program) == STORED;
 }
 
+/* The same moves as one list for each effect, which the list itself selects. */
+static void lists(void)
+{
+    for (uint8_t effect = 0; effect < 16; effect++) {
+        for (size_t move = 0; move < COSTERBLOOM_MOST_MOVES; move++) {
+            uint8_t controller = (uint8_t)(move / 2), value = move % 2 ? 127 : 0;
+            list[move] = (costerbloom_move){controller, controller == SELECTING ? effect : value};
+        }
+        costerbloom_moves(list, COSTERBLOOM_MOST_MOVES, kind->number, 0, 0, 1, 2, 3, 4, memory, sizeof memory, numbers,
+            sizeof numbers);
+        for (size_t move = 0; move < COSTERBLOOM_MOST_MOVES; move++)
+            listed += numbers[move] == APPLIED;
+    }
+}
+
 /* All programs asked for and the answer sent back, byte by byte and by the panel. The receive buffer then holds the
  * answer but for its last byte. */
 static void dumps(void)
@@ -89,11 +108,12 @@ int main(void)
 {
     _Bool within = 1, done = 1;
     for (kind = kinds; kind < kinds + sizeof kinds / sizeof *kinds; kind++) {
-        applied = stored = 0;
+        applied = listed = stored = 0;
         within &= used_by(moves) < MOST;
+        within &= used_by(lists) < MOST;
         within &= used_by(dumps) < MOST;
         int changes = kind->number == COSTERBLOOM_BASS_POD ? 36 : 0;
-        done &= applied != 0 && stored == changes + 2;
+        done &= applied != 0 && listed != 0 && stored == changes + 2;
     }
     if (!done)
         say("stack: the calls did not do what they should\n");
