@@ -71,11 +71,11 @@ static const struct scene {
     uint8_t edit[COSTERBLOOM_BASS_POD_PROGRAM];
 } scenes[] = {
     {{{{55, 127}, NOT_SELECTED}, {{19, 2}, APPLIED}, {{55, 127}, APPLIED}, {{51, 127}, NOT_SELECTED},
-         {{56, 127}, APPLIED}, {{128, 5}, NOT_IN_TABLE}, {{255, 255}, NOT_IN_TABLE}, {{13, 128}, OUT_OF_RANGE},
+         {{56, 127}, APPLIED}, {{141, 5}, NOT_IN_TABLE}, {{255, 255}, NOT_IN_TABLE}, {{13, 128}, OUT_OF_RANGE},
          {{51, 128}, OUT_OF_RANGE}, {{30, 64}, APPLIED}, {{62, 1}, APPLIED}, {{13, 127}, APPLIED}},
         {[46] = 2, [48] = 1, [49] = 0x4E, [50] = 0x0B, [26] = 0x06, [27] = 0xC0, [9] = 63}},
     {{{{13, 127}, APPLIED}, {{12, 16}, OUT_OF_RANGE}, {{12, 15}, APPLIED}, {{55, 127}, NOT_IN_TABLE},
-         {{19, 2}, APPLIED}, {{55, 127}, NOT_IN_TABLE}, {{128, 5}, NOT_IN_TABLE}, {{255, 255}, NOT_IN_TABLE},
+         {{19, 2}, APPLIED}, {{55, 127}, NOT_IN_TABLE}, {{141, 5}, NOT_IN_TABLE}, {{255, 255}, NOT_IN_TABLE},
          {{13, 128}, OUT_OF_RANGE}, {{30, 64}, NOT_IN_TABLE}, {{64, 127}, APPLIED}, {{1, 127}, APPLIED}},
         {[4] = 63, [3] = 15, [49] = 2, [2] = 1, [50] = 63}},
 };
