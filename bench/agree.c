@@ -1,8 +1,10 @@
 /* Whether the plain side is the same box: every value scaled, bytes of the edit buffer shown back, then random calls to
- * both, compared in every bit that is left. Both kinds, and numbers that are none. */
+ * both, lists of moves of every length among them, compared in every bit that is left. Both kinds, and numbers that are
+ * none. */
 #include "side.h"
 
-enum { KINDS = 2, NO_KINDS = 4 };
+/* Lists have 0 to 257 moves, one more than is taken: so many lengths. */
+enum { KINDS = 2, NO_KINDS = 4, LISTS = COSTERBLOOM_MOST_MOVES + 2 };
 
 /* One past the kinds, some that are a kind if they are cut, and the highest. */
 static const uint32_t NO_KIND[NO_KINDS] = {2, 256, 65537, 0xFFFFFFFF};
@@ -72,6 +74,15 @@ static int whole_same(box *a, box *b, const uint8_t *message, size_t length, con
     return costerbloom_whole(message, length, g->kind, g->channel, g->omni, 1, 2, 3, g->revision3, a->memory,
                g->memory, a->reply, g->reply) == plain_whole(message, length, g->kind, g->channel, g->omni, 1, 2, 3,
                                                      g->revision3, b->memory, g->memory, b->reply, g->reply);
+}
+
+/* The numbers go to the reply buffer, of which so much is lent. */
+static int moves_same(box *a, box *b, const costerbloom_move *moves, size_t count, size_t lent, const given *g)
+{
+    return costerbloom_moves(moves, count, g->kind, g->channel, g->omni, 1, 2, 3, g->revision3, a->memory, g->memory,
+               a->reply, lent) == plain_moves(moves, count, g->kind, g->channel, g->omni, 1, 2, 3, g->revision3,
+                                      b->memory, g->memory, b->reply, lent) &&
+           same_box(a, b);
 }
 
 static int scales_same(uint32_t kind)
@@ -233,6 +244,24 @@ static int once_same(box *a, box *b, const uint8_t *message, size_t length, uint
     return whole_same(a, b, message, length, &g) && panel_same(a, b, &g, seed);
 }
 
+/* Most controllers are in a POD's table, and one in eight selects an effect for those behind it. */
+static costerbloom_move any_move(uint64_t *seed)
+{
+    uint32_t controller = below(seed, 8) ? below(seed, below(seed, 4) ? 76 : 256) : 19;
+    return (costerbloom_move){(uint8_t)controller, (uint8_t)below(seed, below(seed, 2) ? 20 : 256)};
+}
+
+/* A list of so many moves. A number too few is lent now and then, whatever else is amiss. */
+static int list_same(box *a, box *b, size_t count, uint32_t kind, uint64_t *seed)
+{
+    static costerbloom_move moves[LISTS];
+    for (size_t i = 0; i < count; i++)
+        moves[i] = any_move(seed);
+    size_t lent = below(seed, 8) || count == 0 ? count + below(seed, 3) : count - 1;
+    given g = below(seed, 8) ? any_given(kind, seed) : any_amiss(kind, seed);
+    return moves_same(a, b, moves, count, lent, &g);
+}
+
 /* Byte by byte. A call that is refused may come before any byte, and loses none; now and then the kind is another from
  * some byte on. */
 static int bytes_same(box *a, box *b, const uint8_t *message, size_t length, uint32_t kind, uint64_t *seed)
@@ -254,7 +283,7 @@ uint32_t agree(box *library, box *plain, uint32_t calls)
 {
     static uint8_t message[COSTERBLOOM_LONGEST + 8];
     uint64_t seed = 0x9E3779B97F4A7C15;
-    uint32_t count = 0;
+    uint32_t count = 0, lists = 0;
     while (count < calls) {
         uint32_t kind = below(&seed, KINDS);
         size_t length = any_message(message, kind, &seed);
@@ -262,6 +291,8 @@ uint32_t agree(box *library, box *plain, uint32_t calls)
         if (wild)
             library->receiver = plain->receiver = any_receiver(&seed);
         if (!once_same(library, plain, message, length, kind, &seed))
+            return count;
+        if (!list_same(library, plain, lists++ % LISTS, kind, &seed))
             return count;
         if (!bytes_same(library, plain, message, length, kind, &seed) || !same_box(library, plain))
             return count;

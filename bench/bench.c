@@ -18,6 +18,7 @@ typedef struct {
 static _Alignas(4096) box boxes[2];
 static uint8_t dump[COSTERBLOOM_POD_LONGEST], bass_dump[COSTERBLOOM_BASS_POD_LONGEST];
 static uint8_t moves[1 + 2 * MOVES], turns[1 + 2 * MOVES];
+static costerbloom_move listed[MOVES];
 static const uint8_t REQUEST[] = {0xF0, 0, 1, 0x0C, 1, 0, 2, 0xF7}, BASS_REQUEST[] = {0xF0, 0, 1, 0x0C, 2, 0, 2, 0xF7};
 
 /* ---- the work, written once for both sides: each side's function is inlined into it, and calls it directly */
@@ -81,6 +82,19 @@ ONCE one_knob(take_call *take, box *b)
     return fed(take, COSTERBLOOM_POD, b, turns, sizeof turns);
 }
 
+/* The mixed moves again, in lists that are as long as they may be. The numbers go to the reply buffer; one of each list
+ * is kept too, since the answers are all the same. */
+ONCE listed_moves(moves_call *call, box *b)
+{
+    uint64_t answers = 0;
+    for (size_t i = 0; i < MOVES / COSTERBLOOM_MOST_MOVES; i++)
+        answers = 3 * answers +
+                  call(listed + i * COSTERBLOOM_MOST_MOVES, COSTERBLOOM_MOST_MOVES, COSTERBLOOM_POD, 0, 0, 0x30, 0x31,
+                      0x30, 0x30, b->memory, sizeof b->memory, b->reply, sizeof b->reply) +
+                  b->reply[i];
+    return answers;
+}
+
 ONCE real_time(take_call *take, box *b)
 {
     uint64_t answers = 0;
@@ -141,6 +155,7 @@ SIDES(dump_in, take)
 SIDES(reply_out, take)
 SIDES(mixed_moves, take)
 SIDES(one_knob, take)
+SIDES(listed_moves, moves)
 SIDES(real_time, take)
 SIDES(last_byte, take)
 SIDES(from_panel, whole)
@@ -175,6 +190,7 @@ static void make_moves(void)
     for (size_t i = 1; i < sizeof moves; i += 2) {
         moves[i] = below(&seed, 16) ? CONTROLLERS[below(&seed, 49)] : (uint8_t)below(&seed, 128);
         moves[i + 1] = (uint8_t)below(&seed, moves[i] == 19 ? 17 : 128);
+        listed[i / 2] = (costerbloom_move){moves[i], moves[i + 1]};
         turns[i] = 7;
         turns[i + 1] = (uint8_t)(i / 2 % 128);
     }
@@ -213,6 +229,7 @@ static const work WORKS[] = {
     {"a long reply out, its request", "request", REQUESTS, fresh, reply_out_library, reply_out_plain},
     {"controllers, all kinds mixed", "byte", sizeof moves, fresh, mixed_moves_library, mixed_moves_plain},
     {"controllers, one knob turned", "byte", sizeof turns, fresh, one_knob_library, one_knob_plain},
+    {"256 moves in one call", "move", MOVES, fresh, listed_moves_library, listed_moves_plain},
     {"real-time bytes", "byte", BYTES, fresh, real_time_library, real_time_plain},
     {"real-time bytes inside a SysEx", "byte", BYTES, inside, real_time_library, real_time_plain},
     {"one call: F7 of a long dump", "call", CALLS, with_dump, last_byte_library, last_byte_plain},

@@ -1,7 +1,8 @@
 /* What makes it fast: half bytes are tested by one OR over all of them and joined in loops that the compiler turns
  * into vector code, every formula is one multiplication, one shift and the greater of two numbers, and a byte's tests
  * stand in the order in which a running box meets them. A call looks at its kind once, and goes on in code of that
- * kind, in which lengths and places are constants. Nothing is skipped: 30, 31 and 32 are tested at every call. */
+ * kind, in which lengths and places are constants. Nothing is skipped: 30 to 34 are tested at every call that
+ * has them. */
 #include "plain.h"
 
 enum { PROGRAMS = 36, REFUSAL = 65536 };
@@ -29,6 +30,8 @@ enum {
     TOO_SHORT = 30,
     NO_SOCKET = 31,
     NOT_SOUND = 32,
+    TOO_MANY = 33,
+    FEW_NUMBERS = 34,
     NO_VALUE = 40
 };
 
@@ -255,6 +258,38 @@ IN_KIND uint32_t apply(const unit *u, uint32_t controller, uint32_t value, uint8
     if (r->width == 2)
         bytes[1] = (uint8_t)(number >> 8);
     return APPLIED;
+}
+
+/* All of a list's tests are done but for 30 and the settings, whose outcome is handed on. */
+IN_KIND uint64_t apply_all(const unit *u, const costerbloom_move *restrict moves, size_t count, int valid,
+    uint8_t *restrict memory, size_t memory_length, uint8_t *restrict numbers)
+{
+    if (memory_length < COSTERBLOOM_MEMORY_OF(u->program))
+        return TOO_SHORT;
+    if (!valid)
+        return NOT_SOUND;
+    for (size_t i = 0; i < count; i++) {
+        uint32_t controller = moves[i].controller;
+        numbers[i] = (uint8_t)(controller > 127 ? NO_CONTROLLER
+                                                : apply(u, controller, moves[i].value, memory + edit_of(u)));
+    }
+    return TAKEN;
+}
+
+uint64_t plain_moves(const costerbloom_move *moves, size_t count, uint32_t kind, uint8_t channel, uint8_t omni,
+    uint8_t revision0, uint8_t revision1, uint8_t revision2, uint8_t revision3, uint8_t *memory, size_t memory_length,
+    uint8_t *numbers, size_t numbers_length)
+{
+    if (count > COSTERBLOOM_MOST_MOVES)
+        return TOO_MANY;
+    if (numbers_length < count)
+        return FEW_NUMBERS;
+    int valid = are_valid(channel, omni, revision0 | revision1 | revision2 | revision3);
+    switch (kind) {
+        case COSTERBLOOM_POD: return apply_all(&POD, moves, count, valid, memory, memory_length, numbers);
+        case COSTERBLOOM_BASS_POD: return apply_all(&BASS_POD, moves, count, valid, memory, memory_length, numbers);
+        default: return NOT_SOUND;
+    }
 }
 
 IN_KIND uint32_t scale(const unit *u, uint32_t controller, uint32_t value)

@@ -8,6 +8,8 @@ typedef uint64_t take_call(costerbloom_receiver *, uint32_t, uint8_t, uint32_t, 
     uint8_t, uint8_t, uint8_t *, size_t, uint8_t *, size_t, uint8_t *, size_t);
 typedef uint64_t whole_call(const uint8_t *, size_t, uint32_t, uint8_t, uint8_t, uint8_t, uint8_t, uint8_t, uint8_t,
     uint8_t *, size_t, uint8_t *, size_t);
+typedef uint64_t moves_call(const costerbloom_move *, size_t, uint32_t, uint8_t, uint8_t, uint8_t, uint8_t, uint8_t,
+    uint8_t, uint8_t *, size_t, uint8_t *, size_t);
 typedef uint32_t back_call(uint32_t, uint32_t, const uint8_t *, size_t);
 
 /* Of either kind. Each buffer begins on a cache line of its own on both sides, so that neither is luckier. */
