@@ -142,6 +142,21 @@ static void whole(void)
     calls++;
 }
 
+/* "the moves that the message holds, two bytes each, controller then value: length / 2 of them" */
+static void move_all(void)
+{
+    static costerbloom_move moves[MESSAGE_ROOM / 2];
+    size_t count = message_length / 2;
+    for (size_t i = 0; i < count; i++)
+        moves[i] = (costerbloom_move){message[2 * i], message[2 * i + 1]};
+    uint64_t answer = costerbloom_moves(moves, count, kind, channel, omni, revision[0], revision[1], revision[2],
+        revision[3], memory, lent[MEMORY], reply, lent[REPLY]);
+    print_answer('V', answer);
+    if ((answer & 0xFF) == TAKEN)
+        print_hex('n', reply, count);
+    calls++;
+}
+
 static void scale(uint32_t value)
 {
     print_value('K', costerbloom_scale(controller, value, kind));
@@ -196,6 +211,7 @@ static void play(command c)
         case 'N': controller = controller << 16 | n; break;
         case 'T': kind = wide; break;
         case 'W': whole(); break;
+        case 'V': move_all(); break;
         case 'S': take(socket, c.v); break;
         case 'M': feed(socket); break;
         case 'K': scale(wide); break;
