@@ -4,7 +4,8 @@
 
 #include "report.h"
 
-enum { MOST = 2048, PAINT = 0xA5, STORED = 1, APPLIED = 3, SELECTOR = 46, SELECTING = 19 };
+enum { MOST = 2048, PAINT = 0xA5, STORED = 1, APPLIED = 3 };
+enum { SELECTOR = 46, SELECTING = 19 }; /* the byte of the edit buffer, and the controller that writes it on a POD */
 
 static const struct kind {
     uint32_t number;
