@@ -1,4 +1,4 @@
-// The C interface: the box on numbers and byte slices. include/costerbloom.h declares these four functions.
+// The C interface: the box on numbers and byte slices. include/costerbloom.h declares its five functions.
 mod moves;
 mod numbers;
 
@@ -10,6 +10,7 @@ ghost use Rattle.costerbloom.specs.Numbers.{settingsOf, takeNumbers, who
 use controls::Reading;
 use framing::Receiver;
 use kinds::Kind;
+pub use moves::costerbloom_moves;
 
 // What the byte call gives back in numbers: the receiver for the next one, and the answer.
 struct Handed {

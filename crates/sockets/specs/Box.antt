@@ -54,7 +54,7 @@ pub record Rules : Type 1 where
   pub count : Code → ℕ
   -- how much a direct call that answers so has written
   pub extent : Given → Code → ℕ
-  -- a number and nothing else: 0, 4, 30 to 32
+  -- a number and nothing else: 0, 4, 30 to 34
   pub plain : ℕ → Code
   -- the most bytes of a SysEx that are stored
   pub limit : ℕ
@@ -98,9 +98,9 @@ abbrev pub sentOf : {Code : Type 0} → (Code → ℕ) → List (Said Code) → 
 sentOf number [] = []
 sentOf number (a ∷ rest) = cond (eqb (number (a .answer)) 2) (a .sent ∷ sentOf number rest) (sentOf number rest)
 
--- "no call is turned away for its buffers, socket number, settings or state": 30 to 32
+-- "no call is turned away for its buffers, socket number, settings or state": 30 to 32; and "each move of a list not refused with 30 to 34"
 abbrev pub turnedAway : ℕ → Bool
-turnedAway n = leb 30 n && leb n 32
+turnedAway n = leb 30 n && leb n 34
 
 module _ (rules : Rules) where
   -- "the finished messages" of calls after the calls before them, by where the sockets stood at first
