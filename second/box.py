@@ -246,15 +246,11 @@ class Box:
 
     def whole(self, message: bytes) -> tuple:
         """Judge a message handed over at once: (number, reply length)."""
-        # Req 04: "a kind that is neither gives 32, just before 30"
-        if self.kind is None:
-            return NO_KIND, 0
         # "30 for the memory or the reply buffer, 32 for a setting, then 10
         # if over 5,193 bytes, then 11 ...; then as above"
-        if self.is_short(MEMORY, REPLY):
-            return TOO_SHORT, 0
-        if not self.settings.in_range():
-            return NOT_SOUND, 0
+        refusal = self.turn_away_call(MEMORY, REPLY)
+        if refusal is not None:
+            return refusal, 0
         if len(message) > self.kind.longest:
             return TOO_LONG, 0
         if not is_framed(message):
@@ -288,6 +284,20 @@ class Box:
             return NO_SOCKET
         if not (self.receivers[own].is_sound(self.kind)
                 and self.settings.in_range()):
+            return NOT_SOUND
+        return None
+
+    def turn_away_call(self, *buffers):
+        """Return why a call that has no socket is refused, None if it isn't.
+
+        These buffers are lent to it.
+        """
+        # Req 04: "a kind that is neither gives 32, just before 30"
+        if self.kind is None:
+            return NO_KIND
+        if self.is_short(*buffers):
+            return TOO_SHORT
+        if not self.settings.in_range():
             return NOT_SOUND
         return None
 

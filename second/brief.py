@@ -12,7 +12,11 @@ from lent import (NO_CONTROLLERS, add_back, add_back_order, add_beyond,
                   add_scale_order, add_scaling, add_stale, add_turned_away,
                   fill, full, sound, unsound)
 from messages import changed, dump, identity, request, resized, wave
+from moves import MOST
 from player import ROOMS
+from scenes import (EVERY_NUMBER, add_again, add_among, add_counts,
+                    add_high, add_list_order, add_list_pieces, add_moves,
+                    add_no_sockets_lent, add_our_channel, add_selected)
 from script import Script
 from sockets import (add_apart, add_changes, add_channels, add_controllers,
                      add_cuts, add_mixed, add_numbers, add_panel, add_pieces,
@@ -51,6 +55,11 @@ def add_opening(script):
     script.settings(16, 0)
     script.send_hex(0, 'F8')                                    # 32
     script.settings(0, 0)
+    script.moves_hex(EVERY_NUMBER)                              # 0
+    script.moves(wave(1, 2 * (MOST + 1)))                       # 33
+    script.lend(REPLY, MOST - 1)
+    script.moves(wave(1, 2 * MOST))                             # 34
+    script.lend_back(REPLY)
     controller, rule = next(iter(kind.table.items()))
     fill(script, rule.field, 0xFF)
     script.back(controller, 13)                                 # 40
@@ -86,6 +95,19 @@ def add_bytes(script):
     add_panel(script)
 
 
+def add_lists(script, receivers):
+    """Lists of moves: less than in the scripts sockets and lent."""
+    add_counts(script)
+    add_list_order(script)
+    add_no_sockets_lent(script, receivers)
+    add_moves(script, (15, 16, 127), EVERY_CONTROLLER)
+    add_high(script)
+    add_selected(script, range(16), 127)
+    add_our_channel(script)
+    add_among(script)
+    add_list_pieces(script, 1000)
+
+
 def add_pod(script):
     """A POD's part: document 01, and Req 01."""
     kind = script.kind
@@ -99,6 +121,8 @@ def add_pod(script):
     add_scaling(script, kind.at_least, range(1, 8))
     add_turned_away(script)
     add_other_buffers(script)
+    add_lists(script, unsound(kind)[:2])
+    add_again(script)
     add_bytes(script)
     add_unknown(kind, script.whole)
     add_orders(kind, partial(script.feed, 1))
@@ -113,6 +137,7 @@ def add_other(script):
     add_lent(script, kind.table)
     add_no_kinds(script, NO_KINDS[::4])
     add_other_buffers(script)
+    add_lists(script, unsound(kind)[:1])
     add_scale_order(script)
     add_changes(script, 0)
     add_recalled(script)

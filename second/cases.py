@@ -1,13 +1,16 @@
-"""Check controllers.py and box.py against the bench cases of document 01.
+"""Check controllers.py, box.py and moves.py against document 01's cases.
 
-Cases of Reqs 01 and 04, of document 02, stand beside them. The numbers here
-are the documents', and none of them is computed from a kind.
+Cases of Reqs 01, 04 and 05, of document 02, stand beside them. The numbers
+here are the documents', and none of them is computed from a kind.
 """
+
+from itertools import product
 
 from box import Box, Receiver
 from controllers import apply, back, join, read, scale, split, store
 from kinds import BASS, KINDS, POD
 from lent import sound, unsound
+from moves import carry_out, in_pairs
 from switched import NO_KINDS
 
 LONG = (26, 27, 28)  # "30 and 62, bytes 26 to 28"
@@ -427,6 +430,153 @@ def check_order():
     expect('5,500 stored', box.take(0, 0xF8), (32, 0))
 
 
+# Req 05
+
+
+def check_list(kind, data, noted, edit, before=b''):
+    """A list on a box with some first bytes of the edit buffer given."""
+    box = Box(kind)
+    box.settings.channel = 5  # "on our channel"
+    box.edit[:len(before)] = before
+    moves, numbers = in_pairs(bytes.fromhex(data)), bytearray(b'\xEE' * 300)
+    expect(f'{kind.word}, list {data}', carry_out(box, moves, numbers), 0)
+    # "the number noted for each move"; those behind keep their bytes
+    expect(f'{kind.word}, numbers of {data}', numbers,
+           bytes(noted) + b'\xEE' * (300 - len(noted)))
+    expect(f'{kind.word}, memory after {data}', box.memory,
+           bytes(36 * len(edit)) + edit)
+
+
+def check_pod_lists():
+    """Lists on a POD: each number, in its order, and what is stored."""
+    cases = (
+        ('', (), {}),
+        # "12 at 27 applied, at 28 is 18": a refused move stops nothing
+        ('0C 1B 0C 1C 0D 7F', (3, 18, 3), {8: 27, 9: 63}),
+        # "55 with byte 46 at 1 is 19"; then 2 is selected and back again
+        ('13 01 37 7F 13 02 37 7F 13 01 37 00', (3, 19, 3, 3, 3, 19),
+         {46: 1, 48: 1}),
+        # "From zero, 30 at 64: bytes 00 C0 00; then 62 at 1: 06 C0 00."
+        ('1E 40 3E 01', (3, 3), {26: 0x06, 27: 0xC0}),
+        # "30 and 62 both 127: FA 7F 01."
+        ('1E 7F 3E 7F', (3, 3), {26: 0xFA, 27: 0x7F, 28: 0x01}),
+        # Req 01: "51 is raised to at least 200"
+        ('33 00', (3,), {48: 200}),
+        # the last of several wins
+        ('0D 02 0D 04 0D 80 0D 06', (3, 3, 18, 3), {9: 3}),
+        # "a controller above 127 is 17, a value above 127 is 18, in the usual
+        # order": 17, 18, 19
+        ('80 00 8D 7F FF FF 00 80 00 FF', (17,) * 5, {}),
+        ('0D 80 0D FF 1E 80 3E FF 37 80 13 80 13 10', (18,) * 7, {}),
+        ('37 7F 37 80 B7 80', (19, 18, 17), {}),
+    )
+    for data, noted, changes in cases:
+        check_list(POD, data, noted, buffer_with(changes))
+    # what stands in the edit buffer at first is seen: 19 where 6 is selected
+    before = buffer_with({9: 1, 46: 6})
+    check_list(POD, '33 7F 0E 7F', (19, 3), buffer_with(
+        {9: 1, 11: 63, 46: 6}), before)
+
+
+def check_bass_lists():
+    """Lists on a Bass box: its ten controllers, and others."""
+    ten = '0C 0F 13 0F 40 40 0D 7F 0E 7F 0F 7F 10 7F 11 7F 12 7F 01 7F'
+    stored = {3: 15, 49: 15, 2: 1, **dict.fromkeys(
+        (4, 6, 7, 8, 10, 11, 50), 63)}
+    check_list(BASS, ten, (3,) * 10, buffer_with(stored, 80))
+    # a POD's others are 17, with any value; no effect is ever asked for
+    check_list(BASS, '37 00 1E 80 17 7F 13 02 37 7F', (17, 17, 17, 3, 17),
+               buffer_with({49: 2}, 80))
+    check_list(BASS, '0C 10 13 10 0D 80 8D 80 FF 00', (18, 18, 18, 17, 17),
+               buffer_with({}, 80))
+
+
+def check_one_by_one():
+    """A list against "the moves sent one by one on our channel"."""
+    moves = [*product((0, 1, 12, 13, 19, 30, 42, 51, 55, 58, 62, 64, 127),
+                      (0, 1, 5, 14, 15, 16, 27, 28, 64, 127))]
+    for kind, (channel, omni), socket in product(
+            KINDS, ((0, 0), (9, 0), (15, 1)), (0, 1)):
+        box, other = Box(kind), Box(kind)
+        box.settings.channel = other.settings.channel = channel
+        box.settings.omni = other.settings.omni = omni
+        numbers = bytearray(len(moves))
+        carry_out(box, moves, numbers)
+        singly = [send(other, bytes((0xB0 + channel, *move)).hex(), socket)
+                  for move in moves]
+        case = f'{kind.word}, channel {channel}, omni {omni}'
+        expect(case, [[(2, number, 0)] for number in numbers], singly)
+        expect(case, box.memory, other.memory)
+
+
+def check_counts():
+    """256 moves and 257, and number buffers that just do and just do not."""
+    for count, room, number in (
+            (0, 0, 0), (1, 0, 34), (1, 1, 0), (255, 254, 34), (255, 255, 0),
+            (256, 255, 34), (256, 0, 34), (256, 256, 0), (256, 300, 0),
+            # "more moves than 256 gives 33", before 34
+            (257, 256, 33), (257, 257, 33), (257, 0, 33), (4096, 5000, 33)):
+        for kind in KINDS:
+            # the last move stores what the others do not
+            moves = [(13, 2)] * (count - 1) + [(13, 126)] * (count > 0)
+            box, numbers = Box(kind), bytearray(room)
+            box.lent[1:] = 0, 0, 0  # no buffer but memory and the numbers
+            case = f'{kind.word}, {count} moves, {room} numbers'
+            expect(case, carry_out(box, moves, numbers), number)
+            taken = number == 0
+            expect(case, numbers, bytes((3,)) * (count if taken else 0)
+                   + bytes(room - count if taken else room))
+            expect(case, max(box.edit), 63 if taken and count else 0)
+
+
+def check_list_order():
+    """Each choice of reasons at once: 33, 34, 32, 30, 32."""
+    for kind, *reasons in product(KINDS, *((False, True),) * 5):
+        many, no_room, no_kind, short, wrong_setting = reasons
+        box, moves = Box(kind), [(13, 127)] * (257 if many else 256)
+        memory = bytes(box.memory)
+        numbers = bytearray(len(moves) - no_room)
+        if no_kind:
+            box.kind_number = 2
+        box.lent[0] -= short
+        box.settings.omni = 2 if wrong_setting else 0
+        # "Refusals, tested 33, 34, then 30 and 32"
+        wanted = next((number for number, holds in zip(
+            (33, 34, 32, 30, 32), reasons) if holds), 0)
+        case = f'{kind.word}, reasons {reasons}'
+        expect(case, carry_out(box, moves, numbers), wanted)
+        # "nothing changes on any of these four"
+        if wanted:
+            expect(case, (box.memory, numbers), (memory, bytes(len(numbers))))
+    # "channel 0 to 15", "four revision bytes of at most 0x7F"
+    box = Box(POD)
+    box.settings.channel = 16
+    expect('channel 16', carry_out(box, [], bytearray()), 32)
+    box = Box(POD)
+    box.settings.revision[3] = 0x80
+    expect('revision 80', carry_out(box, [], bytearray()), 32)
+
+
+def check_between():
+    """A list between the bytes of messages, which it does not touch."""
+    halves = '0A 07' * 72
+    box = Box(POD)
+    for socket, data in ((0, f'F0 00 01 0C 01 01 01 00 {halves}'),
+                         (1, 'B0 13 02 37')):
+        send(box, data, socket)
+    numbers = bytearray(2)
+    # byte 46 changes while 55 waits for its value
+    carry_out(box, [(19, 1), (13, 127)], numbers)
+    expect('between', (numbers, send(box, '7F', 1)),
+           (b'\3\3', [(0, 19, 0)]))
+    expect('between', box.edit, buffer_with({9: 63, 46: 1}))
+    # the dump is stored over the moves, and later moves over the dump
+    expect('between', send(box, 'F7'), [(0, 1, 0)])
+    expect('between', box.edit, b'\xA7' * 72)
+    carry_out(box, [(13, 0)], numbers)
+    expect('between', box.edit, b'\xA7' * 9 + b'\0' + b'\xA7' * 62)
+
+
 def check():
     """Raise on the first wrong case."""
     check_halves()
@@ -445,6 +595,12 @@ def check():
     check_bass_back()
     check_changes()
     check_order()
+    check_pod_lists()
+    check_bass_lists()
+    check_one_by_one()
+    check_counts()
+    check_list_order()
+    check_between()
 
 
 check()

@@ -1,5 +1,6 @@
 """Scripts at random: fragments of bytes on both sockets, turns between."""
 
+from box import REPLY
 from judging import WRONG_SETTINGS
 from kinds import (ALL, EDIT, EVERY_CONTROLLER, KINDS, PROGRAM, START,
                    others)
@@ -7,6 +8,7 @@ from lent import (COUNTS, NO_CONTROLLERS, NO_SOCKETS, VALUES, fill,
                   numbers_for, select, sound, unsound)
 from messages import (changed, dump, edit_with, identity, noise, request,
                       resized, wave, waves)
+from moves import MOST
 from player import MEMORY_ROOM, PARTS, ROOMS
 from sockets import CHANGES
 from switched import NO_KINDS
@@ -134,6 +136,57 @@ def fragment(kind, chance):
     return make(kind, chance)
 
 
+# Lists of moves, as scenes.py has them
+
+
+def high(_, chance):
+    """Return a move with its controller or its value above 127, or both."""
+    above, any_byte = chance.randrange(128, 256), chance.randrange(256)
+    return bytes(chance.choice(((13, 128), (128, 0), (any_byte, above),
+                                (above, any_byte))))
+
+
+def some_moves(kind, chance):
+    """Return a move, or an effect selected and a move that may want it."""
+    return chance.choice((
+        running(kind, chance), running(kind, chance),
+        selecting(kind, chance)[1:], selecting(kind, chance)[1:],
+        high(kind, chance)))
+
+
+def short_list(kind, chance):
+    """Return a list of a few moves, or of none."""
+    return b''.join(some_moves(kind, chance)
+                    for _ in range(chance.randrange(8)))
+
+
+def long_list(kind, chance, count):
+    """Return a list of so many moves, all but a few those of a wave."""
+    # why: a P writes a wave, and half bytes are controllers too
+    moves = wave(chance.randrange(16), 2 * count)
+    for _ in range(chance.randrange(8)):
+        some = some_moves(kind, chance)
+        place = 2 * chance.randrange(count - 1)
+        moves = moves[:place] + some + moves[place + len(some):]
+    return moves
+
+
+def full_list(kind, chance):
+    """Return a list as long as can be, or one shorter."""
+    return long_list(kind, chance, chance.choice((MOST - 1, MOST)))
+
+
+def over_list(kind, chance):
+    """Return a list of one move too many."""
+    return long_list(kind, chance, MOST + 1)
+
+
+def some_list(kind, chance):
+    """Return a list that can be carried out, most often a short one."""
+    make = chance.choice((*(short_list,) * 9, full_list))
+    return make(kind, chance)
+
+
 # Turns: what else happens between two bytes
 
 
@@ -148,6 +201,8 @@ def add_calls(script, chance):
             lambda: script.send(chance.choice(NO_SOCKETS),
                                 stray(kind, chance)),
             lambda: script.add('W'),
+            lambda: script.add('V'),
+            lambda: script.moves(short_list(kind, chance)),
             lambda: script.scale(chance.choice(VALUES)),
             lambda: script.back(chance.choice(EVERY_CONTROLLER))))
         call()
@@ -278,6 +333,31 @@ def turn_feed(script, chance):
     script.add('M', chance.randrange(2))
 
 
+def turn_moves(script, chance):
+    """Hand over a list of moves."""
+    script.moves(some_list(script.kind, chance))
+
+
+def turn_too_many(script, chance):
+    """Hand over a list of one move too many."""
+    script.moves(over_list(script.kind, chance))
+
+
+def turn_noted(script, chance):
+    """A list, with a number buffer about as long as it or an empty one."""
+    moves = some_list(script.kind, chance)
+    count = len(moves) // 2
+    script.lend(REPLY, chance.choice((
+        0, count, max(count - 1, 0), count + 1)))
+    script.moves(moves)
+    script.lend_back(REPLY)
+
+
+def turn_as_moves(script, _):
+    """Take the message, whatever it is, as a list of moves."""
+    script.add('V')
+
+
 def turn_scale(script, chance):
     """Ask for scaled values, in the table and out of it."""
     script.controller(chance.choice((*EVERY_CONTROLLER, *NO_CONTROLLERS,
@@ -329,6 +409,7 @@ TURNS = {
     turn_message: 5, turn_long_message: 1, turn_length: 1, turn_byte: 3,
     turn_whole: 4, turn_feed: 6, turn_scale: 4, turn_back: 3, turn_field: 6,
     turn_raised: 4, turn_poke: 3,
+    turn_moves: 8, turn_too_many: 1, turn_noted: 4, turn_as_moves: 3,
 }
 
 

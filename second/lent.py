@@ -1,4 +1,4 @@
-"""The script of what is lent, scaled and shown back: 30, 31, 32 and 40."""
+"""The script of what is lent, scaled and shown back: 30 to 34 and 40."""
 
 from itertools import product
 
@@ -8,6 +8,7 @@ from judging import wrong_settings
 from kinds import ALL, EDIT, EVERY_CONTROLLER, KINDS, START
 from messages import dump, edit_with, identity, noise, request, wave
 from player import MEMORY_ROOM, MESSAGE_ROOM, ROOMS
+from scenes import add_counts, add_list_order, add_no_sockets_lent
 from script import Script
 from switched import (NO_KINDS, add_no_kinds, add_other_buffers,
                       add_switched)
@@ -138,6 +139,7 @@ def add_lengths(script, buffer, lengths):
         for socket in (0, 1, 2):
             script.send_hex(socket, 'F8 B0 0D 11')
         script.whole(identity(0x7F))
+        script.moves_hex('0D 11')
         script.back(13, 0)
         script.scale(5)
     script.lend_back(buffer)
@@ -233,6 +235,7 @@ def add_wrong_settings(script):
         for socket in (0, 1):
             script.send_hex(socket, 'F8 B0')
         script.whole(identity(0x7F))
+        script.moves_hex('0D 11')
         script.scale(5)
         script.back(13)
 
@@ -339,6 +342,9 @@ def add_all(script):
         add_lengths(script, buffer, lengths_of(buffer))
     add_long_buffers(script, request(kind, ALL))
     add_turned_away(script)
+    add_counts(script)
+    add_list_order(script)
+    add_no_sockets_lent(script, unsound(kind)[::9])
     add_no_kinds(script, NO_KINDS)
     add_other_buffers(script)
     add_scaling(script, (*EVERY_CONTROLLER, *NO_CONTROLLERS), VALUES)

@@ -3,9 +3,10 @@
 from collections import Counter
 from operator import mul
 
-from box import REPLIED, TAKEN, Box
-from controllers import NOT_SELECTED
+from box import REPLIED, REPLY, TAKEN, Box
+from controllers import APPLIED, NOT_SELECTED, OUT_OF_RANGE, UNKNOWN
 from kinds import KINDS, POD
+from moves import carry_out, in_pairs
 
 MESSAGE_ROOM = 8192  # "a message buffer of 8,192 bytes"
 MEMORY_ROOM = 3000   # "memory of 3,000 bytes"
@@ -13,8 +14,13 @@ BUFFER_ROOM = 5800   # receive and reply buffers "of 5,800 bytes"
 ROOMS = (MEMORY_ROOM, BUFFER_ROOM, BUFFER_ROOM, BUFFER_ROOM)
 REFUSED = 65536      # "the value, or 65,536 + the refusal number"
 VALUE = 'value'      # stands for all values among the numbers given
-# "Numbers the box returns", and a row for values
-ROWS = (*range(5), *range(10, 23), 30, 31, 32, 40, VALUE)
+MOVE = 'n'           # stands for a call's letter where a move is counted
+# a row for each number that is noted for a move
+MOVED = {number: f'move {number}' for number in (
+    APPLIED, UNKNOWN, OUT_OF_RANGE, NOT_SELECTED)}
+# "Numbers the box returns", a row for values, and those of moves
+ROWS = (*range(5), *range(10, 23), *range(30, 35), 40, VALUE,
+        *MOVED.values())
 # "stored + 2^16 x inside + 2^24 x over + 2^32 x running + 2^40 x held + 2^48
 # x waiting"
 PLACES = {'stored': 0, 'inside': 16, 'over': 24, 'running': 32, 'held': 40,
@@ -95,14 +101,15 @@ class Player:
             self.box.memory, self.box.reply, *self.box.receive)]
         self.controller = 0
         self.calls = 0
-        # how many calls gave (the kind's number, letter, number)
+        # how many calls gave (the kind's number, letter, number), and how
+        # many moves (the kind's number, MOVE, row)
         self.given = Counter()
         self.changing = {'Y': self.poke, 'C': self.set_channel,
                          'R': self.set_revision, 'Z': self.lend,
                          'E': self.set_receiver, 'N': self.set_controller,
                          'T': self.set_kind}
         self.calling = {'W': self.whole, 'S': self.take, 'M': self.feed,
-                        'K': self.scale, 'D': self.back}
+                        'K': self.scale, 'D': self.back, 'V': self.move}
 
     def play(self, op, a, b, v):
         """Do one command; return its lines."""
@@ -173,6 +180,21 @@ class Player:
         """Do D."""
         return self.asked('D', *self.box.back(self.controller))
 
+    def move(self, *_):
+        """Do V: "the moves that the message holds, two bytes each"."""
+        moves = in_pairs(self.message.content())
+        # "the reply buffer, of which as much is lent as Z says"
+        numbers = memoryview(self.box.reply)[:self.box.lent[REPLY]]
+        number = carry_out(self.box, moves, numbers)
+        line = self.line('V', self.count('V', number), number, 0)
+        if number != TAKEN:
+            return (line,)
+        noted = bytes(numbers[:len(moves)])
+        self.given.update((self.box.kind_number, MOVE, MOVED[number])
+                          for number in noted)
+        # "a further line has the letter n, a tab and .. the numbers"
+        return line, tabbed('n', noted.hex())
+
     def count(self, letter, number):
         """Count a call and what it gave; return its count."""
         self.given[self.box.kind_number, letter, number] += 1
@@ -185,13 +207,17 @@ class Player:
         # "a line where the number is not 0": a W never gives 0
         if number == TAKEN:
             return ()
-        digests = (digest.now() for digest in self.digests)
-        receivers = map(as_number, self.box.receivers)
-        line = tabbed(letter, at, number, length, *digests, *receivers)
+        line = self.line(letter, at, number, length)
         if number != REPLIED:
             return (line,)
         # "a further line has the letter r, a tab and the reply's bytes"
         return line, tabbed('r', self.box.reply[:length].hex())
+
+    def line(self, letter, at, number, length):
+        """Return the line of a call of W, S, M or V."""
+        digests = (digest.now() for digest in self.digests)
+        receivers = map(as_number, self.box.receivers)
+        return tabbed(letter, at, number, length, *digests, *receivers)
 
     def asked(self, letter, outcome, number):
         """Return the lines of a K or a D."""
@@ -230,7 +256,8 @@ def play(script):
 
 def rows_of(kind):
     """Return the rows that a kind of box can give."""
-    return {*ROWS} - (set() if kind.has_effects else {NOT_SELECTED})
+    return {*ROWS} - (set() if kind.has_effects
+                      else {NOT_SELECTED, MOVED[NOT_SELECTED]})
 
 
 def tally(given):

@@ -2,13 +2,14 @@
 
 python3 second/replay.py brief      writes the script that is committed
 python3 second/replay.py whole      writes the script of panel messages
-python3 second/replay.py sockets    writes the script of bytes on sockets
+python3 second/replay.py sockets    writes the script of bytes on sockets and
+                                    of lists of moves among them
 python3 second/replay.py lent       writes the script of what is lent, scaled
                                     and shown back
 python3 second/replay.py answers    reads a script and prints its lines
 python3 second/replay.py histogram  reads a script and prints, for each number
                                     of the table, how many calls of each kind
-                                    gave it
+                                    gave it, and the same of lists' moves
 
 Scripts and lines are in the form of REPLAY.md; the answers are box.py's.
 """
@@ -19,14 +20,15 @@ from brief import make_brief
 from kinds import KINDS
 from lent import make_lent
 from panel import make_whole
-from player import ROWS, VALUE, play, rows_of, tabbed, tally
+from player import MOVED, ROWS, VALUE, play, rows_of, tabbed, tally
 from sockets import make_sockets
 
 # Each script, and the rows that it does not show of either kind.
 SCRIPTS = {
     'brief': (make_brief, set()),
-    'whole': (make_whole, {0, 3, 4, *range(17, 22), 30, 31, 40, VALUE}),
-    'sockets': (make_sockets, {30, 31, 32, 40, VALUE}),
+    'whole': (make_whole, {0, 3, 4, *range(17, 22), 30, 31, 33, 34, 40,
+                           VALUE, *MOVED.values()}),
+    'sockets': (make_sockets, {*range(30, 35), 40, VALUE}),
     'lent': (make_lent, {4, 12, 14, 15, 16, 22}),
 }
 
@@ -44,7 +46,7 @@ def make(name):
 
 
 def histogram(given):
-    """Return a line for each number of the table, and one for values.
+    """Return a line for each number, for values, and for moves' numbers.
 
     The fields are of each kind, and of the numbers that are no kind's.
     """

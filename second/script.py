@@ -125,6 +125,15 @@ class Script:
         self.put(message)
         self.add('W')
 
+    def moves(self, moves):
+        """Hand over a list of moves, bytes here: controller, then value."""
+        self.put(moves)
+        self.add('V')
+
+    def moves_hex(self, text):
+        """Hand over a list of moves written in hex."""
+        self.moves(bytes.fromhex(text))
+
     def feed(self, socket, message):
         """Send a message by M on a socket a + 2^24 x b."""
         self.put(message)

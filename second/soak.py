@@ -17,7 +17,7 @@ from random import Random, SystemRandom
 from brief import add_opening
 from chance import add_random
 from kinds import KINDS
-from player import play, rows_of, tally
+from player import MOVE, play, rows_of, tally
 from replay import SCRIPTS, histogram
 from script import Script
 from streams import play_plan
@@ -75,12 +75,14 @@ class Soak:
 
     def report(self, seconds):
         """Print what was compared, and the histogram."""
-        calls = sum(self.given.values())
-        on_sockets = sum(count for (_, letter, _), count in self.given.items()
-                         if letter == 'S')
-        print(f'{self.scripts} scripts, {calls} calls, {on_sockets} bytes on '
-              f'sockets, {self.printed} bytes printed and compared, '
-              f'{seconds:.0f} s')
+        letters = Counter()
+        for (_, letter, _), count in self.given.items():
+            letters[letter] += count
+        moves = letters.pop(MOVE, 0)  # no calls of their own
+        print(f'{self.scripts} scripts, {sum(letters.values())} calls, '
+              f'{letters["S"]} bytes on sockets, {letters["V"]} lists with '
+              f'{moves} moves carried out, {self.printed} bytes printed and '
+              f'compared, {seconds:.0f} s')
         sys.stdout.writelines(histogram(self.given))
 
 

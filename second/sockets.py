@@ -1,7 +1,7 @@
-"""The script of bytes on sockets."""
+"""The script of bytes on sockets, and of lists of moves among them."""
 
 from functools import partial
-from itertools import chain, zip_longest
+from itertools import zip_longest
 
 from box import END_BYTE
 from judging import add_forms, show
@@ -9,15 +9,12 @@ from kinds import ALL, EDIT, KINDS, PROGRAM, START
 from messages import (PAD, changed, dump, dumps, edit_with, forms, identity,
                       inserted, noise, request, resized, wave, waves)
 from player import MESSAGE_ROOM
+from scenes import add_scenes, listed, shared_moves
 from script import Script
 
 PIECE = 1000  # bytes of a long dump sent in one piece
 # Program changes: "0 (manual), 37 (tuner) and above", and those between.
 CHANGES = (0, 1, 2, 17, 36, 37, 38, 127)
-# Controllers that want an effect on some kind of box.
-SHARED = tuple(controller for kind in KINDS
-               for controller, rule in kind.table.items()
-               if rule.chosen_by is not None)
 
 
 def add_running(script, socket):
@@ -167,28 +164,27 @@ def add_controllers(script, socket, values, controllers=range(128)):
     kind = script.kind
     script.feed(socket, dump(kind, EDIT, noise(3, kind.halves)))
     for value in values:
-        pairs = ((controller, value) for controller in controllers)
-        script.feed(socket, bytes((0xB0, *chain.from_iterable(pairs))))
+        feed_moves(script, socket, listed(
+            (controller, value) for controller in controllers))
         script.send(socket, request(kind, EDIT))
 
 
-def shared_moves(setting, value):
-    """Return an effect selected by controller 19, then what may want one."""
-    pairs = ((controller, value) for controller in SHARED)
-    return bytes((0xB0, 19, setting, *chain.from_iterable(pairs)))
+def feed_moves(script, socket, moves):
+    """Send a list of moves one by one, under running status."""
+    script.feed(socket, b'\xB0' + moves)
 
 
 def add_shared(script, socket, values):
     """Shared bytes under many settings of byte 46."""
     for value in values:
         for setting in range(16):
-            script.feed(socket, shared_moves(setting, value))
+            feed_moves(script, socket, shared_moves(setting, value))
         script.send(socket, request(script.kind, EDIT))
     # from a dump: "any value not listed, 6 and 10 too, gives 19"
     for setting in (2, 6, 10, 16, 0x22, 0x8E, 0xFF):
         script.feed(socket, edit_with(script.kind, {46: setting}))
         # 19 at 16 is refused, so byte 46 stays
-        script.feed(socket, shared_moves(16, 99))
+        feed_moves(script, socket, shared_moves(16, 99))
         script.send(socket, request(script.kind, EDIT))
 
 
@@ -201,8 +197,8 @@ def add_raised(script, socket):
         script.feed(socket, edit_with(kind, {
             46: rule.chosen_by[0], **dict.fromkeys(rule.field, 0)}))
         script.send(socket, request(kind, EDIT))
-        pairs = ((controller, value) for value in range(8))
-        script.feed(socket, bytes((0xB0, *chain.from_iterable(pairs))))
+        feed_moves(script, socket, listed(
+            (controller, value) for value in range(8)))
         script.send(socket, request(kind, EDIT))
 
 
@@ -326,6 +322,7 @@ def add_all(script):
     add_apart(script)
     add_pieces(script)
     add_panel(script)
+    add_scenes(script)
     add_noise(script)
 
 

@@ -1,18 +1,20 @@
-"""Two sockets and the panel at once: what demand 3 says, held against runs.
+"""Two sockets, panel and desk at once: what demand 3 says, held against runs.
 
-A plan has a kind of box, a stream of bytes for each socket and a list of
-panel messages. It is played five times, from the same memory and under the
-same settings: mixed in an order of finishing, mixed otherwise in the same
-order, mixed in another order, and for each of the two orders one message at a
-time. Both receivers start fresh, no call is turned away, every call lends its
-own socket's receiver and buffer, and the settings stay, the kind too: demand
-3's premises.
+A plan has a kind of box, a stream of bytes for each socket, the panel's
+messages and the lighting desk's lists of moves. It is played five times, from
+the same memory and under the same settings: mixed in an order of finishing,
+mixed otherwise in the same order, mixed in another order, and for each of the
+two orders one message at a time. Both receivers start fresh, no call is
+turned away for what it lends or is set to, every call lends its own socket's
+receiver and buffer, and the settings stay, the kind too: demand 3's premises.
 
 A call is named by its source and its place there: the place of a byte in
-its socket's stream, or of a message in the panel's list. "Finishing" calls
-are those of the last bytes of finished messages ("A message the panel hands
-over whole is finished at its call"); a byte that cuts a SysEx has a number
-and finishes nothing. Compared are:
+its socket's stream, of a message among the panel's or of a list among the
+desk's. "Finishing" calls are those of the last bytes of finished messages ("A
+message the panel hands over whole is finished at its call"; Req 05: "Demand 3
+counts each move of a list not refused with 30 to 34 as a message finished at
+that call"); a byte that cuts a SysEx has a number and finishes nothing. A
+list's number is those noted for its moves. Compared are:
 
 any two runs (`Run.own`): "each socket's finished messages depend on that
 socket's bytes alone". For each socket, the same places have a number, and
@@ -31,32 +33,40 @@ a run and one message at a time (`Run.effects`): "The programs, the edit
 buffer and the replies sent are exactly those of carrying out the finished
 messages whole, one at a time, in the order their last bytes arrived." A
 SysEx is handed over whole, a channel message is sent with nothing between
-its bytes, a program change too. What a socket finishes is found by box.py
-from that socket's bytes alone. Each finishing call has the same number, reply
-length and reply and leaves the same memory. "Unfinished and cut messages have
-no effect": they are left out there.
+its bytes, a program change too. A list's moves are "sent one by one on our
+channel"; one above 127, which no wire carries, is a list for itself. What a
+socket finishes is found by box.py from that socket's bytes alone. Each
+finishing call has the same number, reply length and reply and leaves the same
+memory, a list what its last move leaves. "Unfinished and cut messages have no
+effect": they are left out there, and so are an empty list and one of too
+many moves, which is refused with 33.
 """
 
-from typing import NamedTuple
+from typing import NamedTuple, Union
 
-from box import CUT, END_BYTE, TOO_LONG, Receiver
-from chance import REAL_TIME, asking, fragment, storing
-from controllers import APPLIED, NOT_SELECTED
+from box import CONTROLLER, CUT, END_BYTE, TOO_LONG, Receiver
+from chance import (REAL_TIME, asking, fragment, over_list, some_list,
+                    storing)
+from controllers import APPLIED, NOT_SELECTED, TOP
 from kinds import ALL, START
 from messages import PAD, dump, edit_with, waves
+from moves import MOST, TOO_MANY, in_pairs
 from script import Script
 
-SOCKETS, PANEL = (0, 1), 2
+SOCKETS, PANEL, DESK = (0, 1), 2, 3
+# Numbers of calls that finish nothing: an empty list has none, and one that
+# is refused has that of its refusal.
+NOTHING = (CUT, (), (TOO_MANY,))
 
 
 class Answer(NamedTuple):
     """What a player printed of one call."""
 
-    number: int
+    number: Union[int, tuple]  # of a list, those of its moves
     length: int
     memory: str         # digests
     reply_buffer: str
-    receive: str        # of its own socket; empty for the panel
+    receive: str        # of its own socket; empty where it has none
     receiver: str
     reply: str          # in hex; empty where none was written
 
@@ -87,8 +97,20 @@ def make_stream(kind, chance, length):
     return bytes(stream)
 
 
+def make_desk(kind, chance):
+    """Return the desk's lists of moves, some of too many."""
+    return [chance.choice((*(some_list,) * 15, over_list))(kind, chance)
+            for _ in range(chance.randrange(12))]
+
+
+def finished_moves(moves):
+    """Return the moves that a list finishes: none where it is refused."""
+    pairs = in_pairs(moves)
+    return pairs if len(pairs) <= MOST else []
+
+
 class Plan:
-    """What the sockets and the panel send; the kind and the settings."""
+    """What sockets, panel and desk send; the kind and the settings."""
 
     def __init__(self, kind, chance):
         self.kind = kind
@@ -97,14 +119,16 @@ class Plan:
                        edit_with(kind, {46: chance.randrange(16)}))
         panel = [chance.choice((asking, storing))(kind, chance)
                  for _ in range(chance.randrange(8))]
+        desk = make_desk(kind, chance)
         streams = [make_stream(kind, chance, chance.randrange(300, 3000))
                    for _ in SOCKETS]
-        self.sources = (*streams, panel)
+        self.sources = (*streams, panel, desk)
         self.finished = (*(finished(kind, stream) for stream in streams),
-                         dict(enumerate(panel)))
+                         dict(enumerate(panel)),
+                         dict(enumerate(map(finished_moves, desk))))
 
     def order(self, chance):
-        """Return an order of finishing: a source for each message."""
+        """Return an order of finishing: a source for each message or list."""
         order = [source for source, messages in enumerate(self.finished)
                  for _ in messages]
         chance.shuffle(order)
@@ -112,8 +136,8 @@ class Plan:
 
     def mix(self, chance, order):
         """Return every call's (source, place), finishing in this order."""
-        calls, places, turn = [], [0, 0, 0], 0
         ends = [*map(len, self.sources)]
+        calls, places, turn = [], [0] * len(ends), 0
         # how long a source may go on: byte by byte, or in runs
         longest = chance.choice((1, 3, 100, 6000))
         while places != ends:
@@ -149,6 +173,8 @@ class Plan:
         for source, place in calls:
             if source == PANEL:
                 script.whole(self.sources[PANEL][place])
+            elif source == DESK:
+                script.moves(self.sources[DESK][place])
             else:
                 script.send(source, self.sources[source][place:place + 1])
         return bytes(script.commands), [None] * len(self.memory) + calls
@@ -157,14 +183,31 @@ class Plan:
         """Return the script of one message at a time, and its calls."""
         script, named = self.begin(), [None] * len(self.memory)
         for source, place in calls:
-            message = self.finished[source][place]
-            if source == PANEL or message[0] == START:
-                script.whole(message)
-            else:
-                script.send(0, message)
-                named += [None] * (len(message) - 1)
-            named.append((source, place))
+            for count in self.add_singly(script, source,
+                                         self.finished[source][place]):
+                named += [None] * (count - 1) + [(source, place)]
         return bytes(script.commands), named
+
+    def add_singly(self, script, source, message):
+        """Carry out a message, or a list's moves; yield each one's calls."""
+        if source == DESK:
+            for move in message:
+                yield self.add_move(script, bytes(move))
+        elif source == PANEL or message[0] == START:
+            script.whole(message)
+            yield 1
+        else:
+            script.send(0, message)
+            yield len(message)
+
+    def add_move(self, script, move):
+        """Carry out a list's move; return how many calls that takes."""
+        if max(move) > TOP:
+            script.moves(move)
+            return 1
+        channel, _ = self.settings
+        script.send(0, (CONTROLLER << 4 | channel, *move))
+        return 1 + len(move)
 
 
 class Run:
@@ -175,9 +218,16 @@ class Run:
         self.memory = lines[-2]  # at the end
         for line, following in zip(lines, lines[1:]):
             letter, at, *fields = line.split('\t')
-            if letter in ('S', 'W') and named[int(at)] is not None:
+            if letter in ('S', 'W', 'V') and named[int(at)] is not None:
                 call = named[int(at)]
-                self.answers[call] = read_answer(call[0], fields, following)
+                self.add(call, read_answer(call[0], fields, following))
+
+    def add(self, call, answer):
+        """Keep an answer, a further one of a list behind those before it."""
+        if call in self.answers:
+            answer = answer._replace(
+                number=self.answers[call].number + answer.number)
+        self.answers[call] = answer
 
     def own(self):
         """Return of each socket's calls what its bytes alone decide."""
@@ -185,7 +235,7 @@ class Run:
             call: (APPLIED if answer.number == NOT_SELECTED
                    else answer.number,
                    answer.length, answer.receive, answer.receiver)
-            for call, answer in self.answers.items() if call[0] != PANEL}
+            for call, answer in self.answers.items() if call[0] in SOCKETS}
 
     def all(self):
         """Return of every call what the order of finishing decides."""
@@ -200,16 +250,25 @@ class Run:
         calls = {call: (answer.number, answer.length, answer.reply,
                         answer.memory)
                  for call, answer in self.answers.items()
-                 if answer.number != CUT}
+                 if answer.number not in NOTHING}
         return {**calls, 'memory': self.memory}
 
 
 def read_answer(source, fields, following):
     """Return the answer of a call's line and of the line behind it."""
     number, length, memory, reply_buffer, *sockets = fields
-    own = ('', '') if source == PANEL else sockets[source::2]
+    own = sockets[source::2] if source in SOCKETS else ('', '')
     reply = following if following.startswith('r') else ''
-    return Answer(int(number), int(length), memory, reply_buffer, *own, reply)
+    return Answer(read_number(source, number, following), int(length),
+                  memory, reply_buffer, *own, reply)
+
+
+def read_number(source, number, following):
+    """Return a call's number; of a list, or of a move of it, a tuple."""
+    if source != DESK:
+        return int(number)
+    letter, _, noted = following.partition('\t')
+    return tuple(bytes.fromhex(noted)) if letter == 'n' else (int(number),)
 
 
 def play_plan(kind, chance, play):

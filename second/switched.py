@@ -21,6 +21,7 @@ def add_calls(script):
     for socket in (0, 1, 2):
         script.send_hex(socket, 'F8 F7')
     script.whole(identity(0x7F))
+    script.moves_hex('0D 11 13 02')
     script.back(13, 0)
     script.scale(5, 128)
 
@@ -58,6 +59,14 @@ def add_switched_bytes(script):
             script.send_hex(0, text)
 
 
+def add_switched_moves(script):
+    """A list handed to each kind in turn: each has its own edit buffer."""
+    for text in ('0D 7F 0C 10 13 02 37 7F 40 7F', '13 01 37 7F 33 7F 01 7F'):
+        for kind in KINDS:
+            script.bring(kind.number)
+            script.moves_hex(text)
+
+
 def add_switched_dumps(script, kind, other):
     """A dump that is begun, or finished, while the other kind is brought."""
     for given, _ in dumps(kind, 14):
@@ -90,6 +99,7 @@ def add_switched(script):
     for buffer, room in enumerate(ROOMS):
         script.lend(buffer, room)
     add_switched_bytes(script)
+    add_switched_moves(script)
     for kind, other in permutations(KINDS, 2):
         add_switched_dumps(script, kind, other)
         add_switched_mark(script, kind, other)
