@@ -1,4 +1,4 @@
--- What a call does where none of its tests fails, and that a test that fails is one of 30, 31 and 32.
+-- What a call does where none of its tests fails, and that a test that fails is one of 30 to 34.
 use Prim.Native.Nat.{ℕ, _≤_}
 use mathlib.Core.List.{List}
 use mathlib.Core.Path.{_≡_}
@@ -10,13 +10,14 @@ use Rattle.kinds.specs.Kinds.{kindOf}
 use Rattle.programs.specs.Held.{Held}
 use Rattle.framing.specs.declared.Receiver.{Receiver}
 use Rattle.framing.specs.Bytes.{stepOf}
-use Rattle.sockets.specs.Box.{lent, took}
+use Rattle.sockets.specs.Box.{lent, took, directDoes}
 use Rattle.sockets.specs.Promise.{socketOf, stepDoes, byteOf, directOf}
 use Rattle.sysex.specs.declared.Settings.{Settings}
 use Rattle.sysex.specs.Carrying.{Left}
 use Rattle.sysex.specs.Numbers.{refused}
+use Rattle.podbox.specs.declared.Move.{Move}
 use Rattle.podbox.specs.Whole.{handedDoes}
-use Rattle.podbox.specs.Box.{Took, limit, panel, boxRules, plainAnswer, takeTests, wholeTests, takeOf, wholeOf}
+use Rattle.podbox.specs.Box.{Took, limit, panel, Moves, boxRules, plainAnswer, takeTests, wholeTests, movesTests, takeOf, wholeOf, movesOf}
 
 module _ (kindNumber : ℕ) (settings : Settings) (socket : ℕ) (r : Receiver) (byte : ℕ) (held : Held) (receive reply : List ℕ) where
   abbrev stepped : Took
@@ -50,3 +51,22 @@ module _ (kindNumber : ℕ) (settings : Settings) (message : List ℕ) (held : H
       let Away : ℕ → Type 0 = λ number. P (left (plainAnswer number) held reply) in
       tested-cases P (wholeTests kindNumber settings held reply) (λ number. left (plainAnswer number) held reply) (leaves (handedDoes (kindOf kindNumber) settings panel message held) reply) when-stepped
       (λ number f. first-named Away f ((λ _. invalid), (λ _. ((λ _. short), (λ _. ((λ _. short), (λ _. ((λ _. invalid), (λ _. tt)))))))))
+
+module _ (kindNumber : ℕ) (settings : Settings) (moves : List Move) (held : Held) (numbers : List ℕ) where
+  -- the list, carried out
+  abbrev pub listed : Left
+  listed = leaves (directDoes (boxRules kindNumber settings) held (Moves moves)) numbers
+
+  pub moves-passed : AllHold (movesTests kindNumber settings moves held numbers) → movesOf kindNumber settings moves held numbers ≡ listed
+  unfolding directOf
+  moves-passed = tested-passed (movesTests kindNumber settings moves held numbers) (λ number. left (plainAnswer number) held numbers) listed
+
+  pub moves-cases : (P : Left → Type 0) → P (left (refused 30) held numbers) → ((number : ℕ) → 32 ≤ number → number ≤ 34 → P (left (refused number) held numbers))
+      → (AllHold (movesTests kindNumber settings moves held numbers) → P listed) → P (movesOf kindNumber settings moves held numbers)
+  unfolding directOf
+  moves-cases P short away when-listed =
+      let Away : ℕ → Type 0 = λ number. P (left (plainAnswer number) held numbers) in
+      let invalid = away 32 (omega arith) (omega arith) in
+      tested-cases P (movesTests kindNumber settings moves held numbers) (λ number. left (plainAnswer number) held numbers) listed when-listed
+      (λ number f. first-named Away f
+      ((λ _. away 33 (omega arith) (omega arith)), (λ _. ((λ _. away 34 (omega arith) (omega arith)), (λ _. ((λ _. invalid), (λ _. ((λ _. short), (λ _. ((λ _. invalid), (λ _. tt)))))))))))

@@ -1,21 +1,23 @@
--- Demand 3 for this box: its rules are lawful, and its two calls promise what the laws of two sockets are about (`takeOf` is `byteOf`, `wholeOf` is `directOf`).
-use Prim.Native.Nat.{ℕ, _≤_}
+-- Demand 3 for this box: its rules are lawful, and its calls promise what the laws of two sockets are about (`takeOf` is `byteOf`, `wholeOf` and `movesOf` are
+-- `directOf`).
+use Prim.Native.Nat.{ℕ, suc, _+_, _≤_}
 use mathlib.Core.Bool.{true, false}
-use mathlib.Core.List.{List, [], _∷_}
-use mathlib.Core.Path.{_≡_, refl}
+use mathlib.Core.List.{List, [], _∷_, _++_, map}
+use mathlib.Core.Path.{_≡_, refl, sym, ap}
 use native.Mathlib.Omega.{arith}
 use lib.Dec.{leb}
-use lib.ListN.{length}
+use lib.ListN.{length, replicate, length-replicate}
 use borrow.Author.Tests.{leb-true, le-leb, lt-leb}
+use Rattle.ground.specs.Tests.{AllHold}
 use Rattle.kinds.specs.declared.Kind.{Kind}
 use Rattle.kinds.specs.Kinds.{isKind, kindOf}
 use Rattle.programs.specs.Memory.{memorySize}
 use Rattle.programs.specs.Held.{Held}
 use Rattle.framing.proofs.Stands.{fresh-sound}
 use Rattle.sockets.specs.Framer.{Idle}
-use Rattle.sockets.specs.Calls.{Socket, S0, S1, Byte, Direct, Finish, FromSocket, FromDirect}
-use Rattle.sockets.specs.Box.{Lawful, LeftOf, CallsOf, SaidsOf, turnedAway}
-use Rattle.sockets.specs.Promise.{socketNumber}
+use Rattle.sockets.specs.Calls.{Socket, S0, S1, Byte, Direct, Finish, FromSocket, FromDirect, handing}
+use Rattle.sockets.specs.Box.{Said, Away, Lawful, LeftOf, CallsOf, FinishesOf, SaidsOf, saidOf, sentOf, saidsOf, turnedAway, directDoes}
+use Rattle.sockets.specs.Promise.{socketNumber, directOf}
 use Rattle.sockets.specs.History.{WorldOf, backDirect, History, direct, finishedAlong}
 use Rattle.sockets.specs.Demand.{Independent, Fresh, Sound, Roomy, starts, NoEffect}
 use Rattle.sockets.specs.Calm.{calm, calmSaids}
@@ -23,14 +25,18 @@ use Rattle.sockets.proofs.Whole.{demand3, from-sound, no-effect}
 use Rattle.sockets.proofs.Calm.{calms}
 use Rattle.sockets.proofs.Live.{Ready, AllFair, live}
 use Rattle.sysex.specs.declared.Settings.{Settings}
+use Rattle.sysex.specs.declared.Answer.{Answer}
 use Rattle.sysex.specs.Forms.{longest}
 use Rattle.sysex.specs.Numbers.{answerNumber}
 use Rattle.sysex.specs.Carrying.{Outcome}
+use Rattle.podbox.specs.declared.Move.{Move}
 use Rattle.podbox.specs.Settings.{isValid}
 use Rattle.podbox.specs.Whole.{bodyOf, messageOrder}
-use Rattle.podbox.specs.Box.{limit, panel, boxRules, wholeOf}
+use Rattle.podbox.specs.Moves.{mostMoves, moveMessage}
+use Rattle.podbox.specs.Box.{limit, panel, Given, Whole, Moves, Delivered, FromPanel, FromList, handsOf, directTests, noted, extentOf, boxRules, wholeOf, movesOf}
 use Rattle.podbox.proofs.Taking.{some-stored}
-use Rattle.demands.proofs.Tells.{order-tells, message-tells}
+use Rattle.demands.specs.Moves.{FewMoves}
+use Rattle.demands.proofs.Tells.{order-tells, message-tells, channel-quiet}
 use Rattle.demands.proofs.Carried.{Tame, stores, sends, applies, refuses, message-tame, handed-tame}
 
 -- what an outcome does not do: it neither grows memory nor turns a call away
@@ -51,24 +57,55 @@ inside S0 = refl
 inside S1 = refl
 
 module _ (kindNumber : ℕ) (settings : Settings) where
-  kept : (held : Held) (f : Finish (List ℕ)) → memorySize (kindOf kindNumber) ≤ length (held .memory)
+  kept : (held : Held) (f : Finish Delivered) → memorySize (kindOf kindNumber) ≤ length (held .memory)
       → memorySize (kindOf kindNumber) ≤ length (boxRules kindNumber settings .carry held f .held .memory)
   kept held (FromSocket s m) g = omega (arith, tame-length (message-tame (kindOf kindNumber) settings (socketNumber s) held g m))
-  kept held (FromDirect message) g = omega (arith, tame-length (handed-tame (kindOf kindNumber) settings panel held g message))
+  kept held (FromDirect (FromPanel message)) g = omega (arith, tame-length (handed-tame (kindOf kindNumber) settings panel held g message))
+  kept held (FromDirect (FromList m)) g = omega (arith, tame-length (message-tame (kindOf kindNumber) settings panel held g m))
+
+  -- what the messages of a list answer: a number for each move, and no reply
+  abbrev listSaids : Held → List Move → List (Said Answer)
+  listSaids held moves = saidsOf (boxRules kindNumber settings) held (handing (handsOf settings (Moves moves)))
+
+  pub noted-length : (held : Held) (moves : List Move) → length (noted (listSaids held moves)) ≡ length moves
+  noted-length held [] = refl
+  noted-length held (move ∷ moves) = ap suc (noted-length _ moves)
+
+  none-sent : (held : Held) (moves : List Move) → sentOf answerNumber (listSaids held moves) ≡ []
+  none-sent held [] = refl
+  none-sent held (move ∷ moves) =
+      rw (channel-quiet (kindOf kindNumber) settings panel held (0xB0 + settings .channel) (move .controller) (move .value)) (none-sent _ moves)
+
+  away-direct : (x : Given) (held : Held) (out : List ℕ) → Away (boxRules kindNumber settings) (directTests kindNumber settings x held out)
+  away-direct (Whole message) held reply = (refl, (refl, (refl, (refl, tt))))
+  away-direct (Moves moves) held numbers = (refl, (refl, (refl, (refl, (refl, tt)))))
+
+  enough-direct : (x : Given) (held : Held) (out : List ℕ) → AllHold (directTests kindNumber settings x held out) → memorySize (kindOf kindNumber) ≤ length (held .memory)
+  enough-direct (Whole message) held reply all = leb-true _ _ (all .1 .0)
+  enough-direct (Moves moves) held numbers all = leb-true _ _ (all .1 .1 .1 .0)
+
+  told-direct : (held : Held) (x : Given) → (let o = directDoes (boxRules kindNumber settings) held x in extentOf x (o .answer) ≡ length (o .sent))
+  told-direct held (Whole message) = order-tells (kindOf kindNumber) settings panel held (messageOrder (kindOf kindNumber) settings message) (bodyOf message)
+  told-direct held (Moves moves) = sym (noted-length held moves)
+
+  passes-direct : (held : Held) (x : Given) → sentOf answerNumber (saidOf (directDoes (boxRules kindNumber settings) held x) ∷ [])
+      ≡ sentOf answerNumber (saidsOf (boxRules kindNumber settings) held (handing (handsOf settings x)))
+  passes-direct held (Whole message) = refl
+  passes-direct held (Moves moves) = sym (none-sent held moves)
 
   pub lawful : Lawful (boxRules kindNumber settings)
   lawful = record {
     positive = some-stored (kindOf kindNumber);
     away = λ socket entry. (refl, (refl, (refl, (refl, (refl, (refl, (refl, tt)))))));
-    awayDirect = λ message held reply. (refl, (refl, (refl, (refl, tt))));
+    awayDirect = away-direct;
     enough = λ socket entry all. (let room = leb-true (longest (kindOf kindNumber)) (length (entry .receive)) (all .1 .1 .0) in omega (arith, some-stored (kindOf kindNumber)), leb-true _ _ (all .1 .0));
-    enoughDirect = λ message held reply all. leb-true _ _ (all .1 .0);
+    enoughDirect = enough-direct;
     kept = kept;
     quiet = (refl, refl);
     cut = (refl, refl);
     told = λ held s m g. message-tells (kindOf kindNumber) settings (socketNumber s) held m;
-    toldDirect = λ held message g. order-tells (kindOf kindNumber) settings panel held (messageOrder (kindOf kindNumber) settings message) (bodyOf message);
-    passes = λ held message g. refl;
+    toldDirect = λ held x g. told-direct held x;
+    passes = λ held x g. passes-direct held x;
   }
 
   module _ (w v : WorldOf (boxRules kindNumber settings)) (calls : CallsOf (boxRules kindNumber settings)) (saids : SaidsOf (boxRules kindNumber settings)) where
@@ -93,32 +130,60 @@ module _ (kindNumber : ℕ) (settings : Settings) where
       → NoEffect (boxRules kindNumber settings) w v w′ v′ calls calls′ saids saids′
   box-no-effect w v w′ v′ calls calls′ saids saids′ = no-effect (boxRules kindNumber settings) w v w′ v′ calls calls′ saids saids′ lawful
 
-  -- "A message the panel hands over whole is finished at its call."
-  pub panel-finishes : (w : WorldOf (boxRules kindNumber settings)) {v : WorldOf (boxRules kindNumber settings)} {calls : CallsOf (boxRules kindNumber settings)} {saids : SaidsOf (boxRules kindNumber settings)} {message : List ℕ}
-      (reply : List ℕ) (done : LeftOf (boxRules kindNumber settings)) (met : done ≡ wholeOf kindNumber settings message (w .held) reply)
-      (taken : turnedAway (answerNumber (done .answer)) ≡ false) (rest : History (boxRules kindNumber settings) (backDirect w (done .held)) calls v saids)
-      → finishedAlong (boxRules kindNumber settings) (direct {w = w} {x = message} reply done met taken rest) ≡ FromDirect message ∷ finishedAlong (boxRules kindNumber settings) rest
-  panel-finishes w reply done met taken rest = refl
+  -- "A message the panel hands over whole is finished at its call.", and each move of a list at the list's
+  module _ (w : WorldOf (boxRules kindNumber settings)) {v : WorldOf (boxRules kindNumber settings)} {calls : CallsOf (boxRules kindNumber settings)} {saids : SaidsOf (boxRules kindNumber settings)}
+      (out : List ℕ) (done : LeftOf (boxRules kindNumber settings)) (taken : turnedAway (answerNumber (done .answer)) ≡ false)
+      (rest : History (boxRules kindNumber settings) (backDirect w (done .held)) calls v saids) where
+    abbrev Finishes : (x : Given) → done ≡ directOf (boxRules kindNumber settings) x (w .held) out → FinishesOf (boxRules kindNumber settings) → Type 0
+    Finishes x met fs =
+        finishedAlong (boxRules kindNumber settings) (direct {w = w} {x = x} out done met taken rest) ≡ fs ++ finishedAlong (boxRules kindNumber settings) rest
 
-  -- Histories exist: with a kind, valid settings and enough lent, a box with sound receivers turns no call away.
+    pub panel-finishes : (message : List ℕ) (met : done ≡ wholeOf kindNumber settings message (w .held) out) → Finishes (Whole message) met (FromDirect (FromPanel message) ∷ [])
+    panel-finishes message met = refl
+
+    pub list-finishes : (moves : List Move) (met : done ≡ movesOf kindNumber settings moves (w .held) out)
+        → Finishes (Moves moves) met (map (λ (move : Move). FromDirect (FromList (moveMessage settings move))) moves)
+    list-finishes moves met = ap (λ (fs : FinishesOf (boxRules kindNumber settings)). fs ++ finishedAlong (boxRules kindNumber settings) rest) (handed-each moves)
+      where
+        handed-each : (rest : List Move) → handing (handsOf settings (Moves rest)) ≡ map (λ (move : Move). FromDirect (FromList (moveMessage settings move))) rest
+        handed-each [] = refl
+        handed-each (move ∷ rest) = ap (λ (fs : FinishesOf (boxRules kindNumber settings)). FromDirect (FromList (moveMessage settings move)) ∷ fs) (handed-each rest)
+
+  -- Histories exist: with a kind, valid settings and enough lent, a box with sound receivers turns no call away, if no list is too long.
   pub box-lives : isKind kindNumber ≡ true → isValid settings ≡ true → (reply : List ℕ) → longest (kindOf kindNumber) ≤ length reply → (w : WorldOf (boxRules kindNumber settings)) (calls : CallsOf (boxRules kindNumber settings))
-      → Sound (boxRules kindNumber settings) w → memorySize (kindOf kindNumber) ≤ length (w .held .memory) → Roomy (boxRules kindNumber settings) w
+      → FewMoves calls → Sound (boxRules kindNumber settings) w → memorySize (kindOf kindNumber) ≤ length (w .held .memory) → Roomy (boxRules kindNumber settings) w
       → (v : WorldOf (boxRules kindNumber settings)) × (saids : SaidsOf (boxRules kindNumber settings)) × History (boxRules kindNumber settings) w calls v saids
-  box-lives known valid reply long w calls sound good rooms =
-      live (boxRules kindNumber settings) lawful reply (λ message out. longest (kindOf kindNumber) ≤ length out) ready (λ message. reply) w calls sound good rooms (fair calls)
+  box-lives known valid reply long w calls few sound good rooms = live (boxRules kindNumber settings) lawful reply Fair ready outs w calls sound good rooms (fair calls few)
     where
-      fair : (rest : CallsOf (boxRules kindNumber settings)) → AllFair (λ message out. longest (kindOf kindNumber) ≤ length out) (λ message. reply) rest
-      fair [] = tt
-      fair (Byte s b ∷ rest) = fair rest
-      fair (Direct x ∷ rest) = (long, fair rest)
+      Fair : Given → List ℕ → Type 0
+      Fair (Whole message) out = longest (kindOf kindNumber) ≤ length out
+      Fair (Moves moves) out = (length moves ≤ mostMoves) × (length moves ≤ length out)
 
-      ready : Ready (boxRules kindNumber settings) reply (λ message out. longest (kindOf kindNumber) ≤ length out)
+      outs : Given → List ℕ
+      outs (Whole message) = reply
+      outs (Moves moves) = replicate (length moves) 0
+
+      fair : (rest : CallsOf (boxRules kindNumber settings)) → FewMoves rest → AllFair Fair outs rest
+      fair [] few = tt
+      fair (Byte s b ∷ rest) few = fair rest few
+      fair (Direct (Whole message) ∷ rest) few = (long, fair rest few)
+      fair (Direct (Moves moves) ∷ rest) few = ((few .0, omega (arith, length-replicate {A = ℕ} (length moves) 0)), fair rest (few .1))
+
+      taken-direct : (x : Given) (out : List ℕ) (held : Held) → memorySize (kindOf kindNumber) ≤ length (held .memory) → Fair x out → AllHold (directTests kindNumber settings x held out)
+      taken-direct (Whole message) out held m h = (known, (le-leb _ _ m, (le-leb _ _ h, (valid, tt))))
+      taken-direct (Moves moves) out held m h = (le-leb _ _ (h .0), (le-leb _ _ (h .1), (known, (le-leb _ _ m, (valid, tt)))))
+
+      answered-direct : (held : Held) (x : Given) → memorySize (kindOf kindNumber) ≤ length (held .memory) → turnedAway (answerNumber (directDoes (boxRules kindNumber settings) held x .answer)) ≡ false
+      answered-direct held (Whole message) g = tame-taken (handed-tame (kindOf kindNumber) settings panel held g message)
+      answered-direct held (Moves moves) g = refl
+
+      ready : Ready (boxRules kindNumber settings) reply Fair
       ready = record {
         taken = λ s held r receive m e b. (known, (le-leb _ _ m, (le-leb (longest (kindOf kindNumber)) (length receive) (omega arith), (le-leb _ _ long, (inside s, (e, (valid, tt)))))));
-        takenDirect = λ message out held m h. (known, (le-leb _ _ m, (le-leb _ _ h, (valid, tt))));
+        takenDirect = taken-direct;
         quiet = (refl, refl);
         answered = λ held s m g. tame-taken (message-tame (kindOf kindNumber) settings (socketNumber s) held g m);
-        answeredDirect = λ held message g. tame-taken (handed-tame (kindOf kindNumber) settings panel held g message);
+        answeredDirect = answered-direct;
       }
 
   -- Fresh receivers are sound.

@@ -20,7 +20,7 @@ use Rattle.podbox.specs.Settings.{isValid}
 use Rattle.podbox.specs.Messages.{isHeard, isController, controllerDoes, channelDoes, messageDoes}
 use Rattle.podbox.specs.Moves.{moveMessage}
 
-valid-channel : (settings : Settings) → isValid settings ≡ true → settings .channel ≤ 15
+pub valid-channel : (settings : Settings) → isValid settings ≡ true → settings .channel ≤ 15
 unfolding isValid
 valid-channel settings valid = leb-true (settings .channel) 15 (both (leb (settings .channel) 15) _ valid .0)
 

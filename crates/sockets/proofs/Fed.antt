@@ -1,14 +1,16 @@
--- A framed message that is fed to a fresh socket, byte by byte, is finished by its F7 and does what it does then; no byte before does anything.
-use Prim.Native.Nat.{ℕ}
-use mathlib.Core.Bool.{true}
+-- What a message does that is fed to a socket, byte by byte: its last byte finishes it, a framed one's F7 or a channel message's second data byte, and no
+-- byte before does anything.
+use Prim.Native.Nat.{ℕ, _≤_, _<_}
+use mathlib.Core.Bool.{true, false}
 use mathlib.Core.Path.{_≡_, refl, ap, _∙_}
 use mathlib.Core.List.{List, [], _∷_, _++_, append-nil, append-assoc}
 use native.Mathlib.Omega.{arith}
 use lib.Dec.{leb}
-use borrow.Author.Tests.{leb-true, lt-leb, lt-ltb}
+use borrow.Author.Tests.{leb-true, lt-leb, lt-ltb, le-ltb}
 use Rattle.ground.specs.Lists.{allAtMost}
 use Rattle.ground.proofs.Tests.{both}
-use Rattle.sockets.specs.Framer.{Happening, Nothing, Framer, Idle, Inside, hear, closed, hears}
+use Rattle.framing.specs.Receiver.{takesOne}
+use Rattle.sockets.specs.Framer.{Channel, Happening, Nothing, Finished, Framer, Idle, AwaitTwo, Half, Inside, Heard, hear, hearsData, closed, hears}
 use Rattle.sockets.specs.Calls.{Socket, S0, S1, Byte, FromSocket, ifSame, stands, bytesOf, feed, finishing, finishes}
 use Rattle.sockets.specs.Box.{said, Rules, CallsOf, FinishesOf, SaidsOf, Lawful, saidOf, finishedBy, heldAfter, taken, happeningDoes}
 use Rattle.sockets.specs.History.{WorldOf, History, saidsAlong}
@@ -16,17 +18,27 @@ use Rattle.sockets.specs.Demand.{Fresh}
 use Rattle.sockets.proofs.Alone.{stands-byte}
 use Rattle.sockets.proofs.Whole.{demand3}
 
--- "Bytes below 0x80 are added."
-adds : (limit : ℕ) (bytes : List ℕ) (b : ℕ) → leb b 0x7F ≡ true → hears limit (Inside bytes) b ≡ hear Nothing (Inside (bytes ++ b ∷ []))
+-- a data byte
+low-heard : (limit : ℕ) (f : Framer) (b : ℕ) → leb b 0x7F ≡ true → hears limit f b ≡ hearsData f b
 unfolding hears
-adds limit bytes b low = let h = leb-true b 0x7F low in rw (lt-leb 0xF8 b (omega arith), lt-ltb b 0x80 (omega arith))
+low-heard limit f b low = let h = leb-true b 0x7F low in rw (lt-leb 0xF8 b (omega arith), lt-ltb b 0x80 (omega arith))
+
+-- a status that takes two data bytes, on a fresh socket and behind a message of such a status
+module _ (limit status : ℕ) (from : 0x80 ≤ status) (below : status < 0xF0) (two : takesOne status ≡ false) where
+  pub idle-heard : hears limit Idle status ≡ hear Nothing (AwaitTwo status)
+  unfolding hears
+  idle-heard = rw (lt-leb 0xF8 status (omega arith), le-ltb status 0x80 from, lt-ltb status 0xF0 below, two)
+
+  pub again-heard : (before : ℕ) → hears limit (AwaitTwo before) status ≡ hear Nothing (AwaitTwo status)
+  unfolding hears
+  again-heard before = rw (lt-leb 0xF8 status (omega arith), le-ltb status 0x80 from, lt-ltb status 0xF0 below, two)
 
 itself : {A : Type 0} (s : Socket) (x y : A) → ifSame s s x y ≡ x
 itself S0 x y = refl
 itself S1 x y = refl
 
 module _ (rules : Rules) (start : Socket → Framer) (s : Socket) (held : rules .Held) where
-  abbrev At : CallsOf rules → Framer
+  abbrev pub At : CallsOf rules → Framer
   At before = stands (rules .limit) (start s) (bytesOf s before)
 
   moved : (before : CallsOf rules) (b : ℕ) → At (before ++ (Byte s b ∷ [])) ≡ hears (rules .limit) (At before) b .next
@@ -49,7 +61,7 @@ module _ (rules : Rules) (start : Socket → Framer) (s : Socket) (held : rules 
       )
   rest-fed before body (b ∷ rest) e low =
       let p = both (leb b 0x7F) (allAtMost 0x7F rest) low in
-      let a = adds (rules .limit) body b (p .0) in
+      let a = low-heard (rules .limit) (Inside body) b (p .0) in
       let next = rest-fed (before ++ (Byte s b ∷ [])) (body ++ (b ∷ [])) rest (moved before b ∙ (rw (e, a))) (p .1) in
       let n = rw (append-assoc body (b ∷ []) rest) at next in
       let what : hears (rules .limit) (At before) b .what ≡ Nothing = rw (e, a) in (
@@ -57,6 +69,37 @@ module _ (rules : Rules) (start : Socket → Framer) (s : Socket) (held : rules 
         ap (λ (h : Happening). let o = happeningDoes rules held s h in saidOf o ∷ saidsAlong rules start (o .held) (before ++ (Byte s b ∷ [])) (feed s (rest ++ (0xF7 ∷ [])))) what
             ∙ ap (λ (l : SaidsOf rules). said (rules .plain 0) [] ∷ l) (n .1),
       )
+
+  -- a channel message of two data bytes: the calls after its three, what it finishes and what its bytes are answered, in front of other calls
+  module _ (before calls : CallsOf rules) (status first second : ℕ) (opened : hears (rules .limit) (At before) status ≡ hear Nothing (AwaitTwo status))
+      (low : leb first 0x7F ≡ true) (low′ : leb second 0x7F ≡ true) where
+    abbrev pub behind : CallsOf rules
+    behind = ((before ++ (Byte s status ∷ [])) ++ (Byte s first ∷ [])) ++ (Byte s second ∷ [])
+
+    first-heard : hears (rules .limit) (At (before ++ (Byte s status ∷ []))) first ≡ hear Nothing (Half status first)
+    first-heard = rw (moved before status, opened) (low-heard (rules .limit) (AwaitTwo status) first low)
+
+    second-heard : hears (rules .limit) (At ((before ++ (Byte s status ∷ [])) ++ (Byte s first ∷ []))) second ≡ hear (Finished (Channel status first second)) (AwaitTwo status)
+    second-heard = rw (moved (before ++ (Byte s status ∷ [])) first, first-heard) (low-heard (rules .limit) (Half status first) second low′)
+
+    pub channel-stands : At behind ≡ AwaitTwo status
+    channel-stands = moved ((before ++ (Byte s status ∷ [])) ++ (Byte s first ∷ [])) second ∙ ap (λ (h : Heard). h .next) second-heard
+
+    pub channel-finishes : finishedBy rules start before (Byte s status ∷ Byte s first ∷ Byte s second ∷ calls) ≡ FromSocket s (Channel status first second) ∷ finishedBy rules start behind calls
+    unfolding finishes
+    channel-finishes =
+        (λ i. finishing s (opened i .what) ++ (finishing s (first-heard i .what) ++ (finishing s (second-heard i .what) ++ finishedBy rules start behind calls)))
+
+    pub channel-answers :
+        (let o = rules .carry held (FromSocket s (Channel status first second)) in
+        saidsAlong rules start held before (Byte s status ∷ Byte s first ∷ Byte s second ∷ calls)
+        ≡ said (rules .plain 0) [] ∷ said (rules .plain 0) [] ∷ saidOf o ∷ saidsAlong rules start (o .held) behind calls)
+    channel-answers =
+        (λ i.
+        let a = happeningDoes rules held s (opened i .what) in
+        let b = happeningDoes rules (a .held) s (first-heard i .what) in
+        let c = happeningDoes rules (b .held) s (second-heard i .what) in
+        saidOf a ∷ saidOf b ∷ saidOf c ∷ saidsAlong rules start (c .held) behind calls)
 
 module _ (rules : Rules) (w v : WorldOf rules) (s : Socket) (rest : List ℕ) (saids : SaidsOf rules) where
   pub framed-fed : Lawful rules → Fresh rules w → allAtMost 0x7F rest ≡ true → History rules w (feed s (0xF0 ∷ (rest ++ (0xF7 ∷ [])))) v saids
