@@ -13,6 +13,7 @@ pub mod EditAlone
 pub mod ProgramChange
 pub mod Reasons
 pub mod Sockets
+pub mod ManyMoves
 pub mod Fed
 pub mod ToldApart
 pub mod AsTheBox

@@ -37,38 +37,12 @@ itself : {A : Type 0} (s : Socket) (x y : A) → ifSame s s x y ≡ x
 itself S0 x y = refl
 itself S1 x y = refl
 
-module _ (rules : Rules) (start : Socket → Framer) (s : Socket) (held : rules .Held) where
+module _ (rules : Rules) (start : Socket → Framer) (s : Socket) where
   abbrev pub At : CallsOf rules → Framer
   At before = stands (rules .limit) (start s) (bytesOf s before)
 
   moved : (before : CallsOf rules) (b : ℕ) → At (before ++ (Byte s b ∷ [])) ≡ hears (rules .limit) (At before) b .next
   moved before b = stands-byte (rules .limit) (start s) s s b before ∙ itself s _ _
-
-  -- what calls finish and what they answer, where the last one finishes a message and the others, one for each of these bytes, none
-  abbrev Finishes : CallsOf rules → CallsOf rules → List ℕ → List ℕ → Type 0
-  Finishes before calls bytes body =
-      let f = FromSocket s (closed (rules .limit) body) in
-      (finishedBy rules start before calls ≡ f ∷ [])
-      × (saidsAlong rules start held before calls ≡ taken rules bytes ++ (saidOf (rules .carry held f) ∷ []))
-
-  rest-fed : (before : CallsOf rules) (body rest : List ℕ) → At before ≡ Inside body → allAtMost 0x7F rest ≡ true
-      → Finishes before (feed s (rest ++ (0xF7 ∷ []))) rest (body ++ rest)
-  unfolding finishes hears
-  rest-fed before body [] e low =
-      rw (append-nil body) (
-        ap (λ (at : Framer). finishing s (hears (rules .limit) at 0xF7 .what) ++ []) e,
-        ap (λ (at : Framer). saidOf (happeningDoes rules held s (hears (rules .limit) at 0xF7 .what)) ∷ []) e,
-      )
-  rest-fed before body (b ∷ rest) e low =
-      let p = both (leb b 0x7F) (allAtMost 0x7F rest) low in
-      let a = low-heard (rules .limit) (Inside body) b (p .0) in
-      let next = rest-fed (before ++ (Byte s b ∷ [])) (body ++ (b ∷ [])) rest (moved before b ∙ (rw (e, a))) (p .1) in
-      let n = rw (append-assoc body (b ∷ []) rest) at next in
-      let what : hears (rules .limit) (At before) b .what ≡ Nothing = rw (e, a) in (
-        ap (λ (h : Happening). finishing s h ++ finishedBy rules start (before ++ (Byte s b ∷ [])) (feed s (rest ++ (0xF7 ∷ [])))) what ∙ n .0,
-        ap (λ (h : Happening). let o = happeningDoes rules held s h in saidOf o ∷ saidsAlong rules start (o .held) (before ++ (Byte s b ∷ [])) (feed s (rest ++ (0xF7 ∷ [])))) what
-            ∙ ap (λ (l : SaidsOf rules). said (rules .plain 0) [] ∷ l) (n .1),
-      )
 
   -- a channel message of two data bytes: the calls after its three, what it finishes and what its bytes are answered, in front of other calls
   module _ (before calls : CallsOf rules) (status first second : ℕ) (opened : hears (rules .limit) (At before) status ≡ hear Nothing (AwaitTwo status))
@@ -90,16 +64,43 @@ module _ (rules : Rules) (start : Socket → Framer) (s : Socket) (held : rules 
     channel-finishes =
         (λ i. finishing s (opened i .what) ++ (finishing s (first-heard i .what) ++ (finishing s (second-heard i .what) ++ finishedBy rules start behind calls)))
 
-    pub channel-answers :
+    pub channel-answers : (held : rules .Held) →
         (let o = rules .carry held (FromSocket s (Channel status first second)) in
         saidsAlong rules start held before (Byte s status ∷ Byte s first ∷ Byte s second ∷ calls)
         ≡ said (rules .plain 0) [] ∷ said (rules .plain 0) [] ∷ saidOf o ∷ saidsAlong rules start (o .held) behind calls)
-    channel-answers =
+    channel-answers held =
         (λ i.
         let a = happeningDoes rules held s (opened i .what) in
         let b = happeningDoes rules (a .held) s (first-heard i .what) in
         let c = happeningDoes rules (b .held) s (second-heard i .what) in
         saidOf a ∷ saidOf b ∷ saidOf c ∷ saidsAlong rules start (c .held) behind calls)
+
+  module _ (held : rules .Held) where
+    -- what calls finish and what they answer, where the last one finishes a message and the others, one for each of these bytes, none
+    abbrev Finishes : CallsOf rules → CallsOf rules → List ℕ → List ℕ → Type 0
+    Finishes before calls bytes body =
+        let f = FromSocket s (closed (rules .limit) body) in
+        (finishedBy rules start before calls ≡ f ∷ [])
+        × (saidsAlong rules start held before calls ≡ taken rules bytes ++ (saidOf (rules .carry held f) ∷ []))
+
+    rest-fed : (before : CallsOf rules) (body rest : List ℕ) → At before ≡ Inside body → allAtMost 0x7F rest ≡ true
+        → Finishes before (feed s (rest ++ (0xF7 ∷ []))) rest (body ++ rest)
+    unfolding finishes hears
+    rest-fed before body [] e low =
+        rw (append-nil body) (
+          ap (λ (at : Framer). finishing s (hears (rules .limit) at 0xF7 .what) ++ []) e,
+          ap (λ (at : Framer). saidOf (happeningDoes rules held s (hears (rules .limit) at 0xF7 .what)) ∷ []) e,
+        )
+    rest-fed before body (b ∷ rest) e low =
+        let p = both (leb b 0x7F) (allAtMost 0x7F rest) low in
+        let a = low-heard (rules .limit) (Inside body) b (p .0) in
+        let next = rest-fed (before ++ (Byte s b ∷ [])) (body ++ (b ∷ [])) rest (moved before b ∙ (rw (e, a))) (p .1) in
+        let n = rw (append-assoc body (b ∷ []) rest) at next in
+        let what : hears (rules .limit) (At before) b .what ≡ Nothing = rw (e, a) in (
+          ap (λ (h : Happening). finishing s h ++ finishedBy rules start (before ++ (Byte s b ∷ [])) (feed s (rest ++ (0xF7 ∷ [])))) what ∙ n .0,
+          ap (λ (h : Happening). let o = happeningDoes rules held s h in saidOf o ∷ saidsAlong rules start (o .held) (before ++ (Byte s b ∷ [])) (feed s (rest ++ (0xF7 ∷ [])))) what
+              ∙ ap (λ (l : SaidsOf rules). said (rules .plain 0) [] ∷ l) (n .1),
+        )
 
 module _ (rules : Rules) (w v : WorldOf rules) (s : Socket) (rest : List ℕ) (saids : SaidsOf rules) where
   pub framed-fed : Lawful rules → Fresh rules w → allAtMost 0x7F rest ≡ true → History rules w (feed s (0xF0 ∷ (rest ++ (0xF7 ∷ [])))) v saids
@@ -108,5 +109,5 @@ module _ (rules : Rules) (w v : WorldOf rules) (s : Socket) (rest : List ℕ) (s
   unfolding finishes hears
   framed-fed law new low history =
       let d = demand3 rules w v (feed s (0xF0 ∷ (rest ++ (0xF7 ∷ [])))) saids law new history in
-      let n = rest-fed rules (λ t. Idle) s (w .held) (Byte s 0xF0 ∷ []) (0xF0 ∷ []) rest (moved rules (λ t. Idle) s (w .held) [] 0xF0) low in
+      let n = rest-fed rules (λ t. Idle) s (w .held) (Byte s 0xF0 ∷ []) (0xF0 ∷ []) rest (moved rules (λ t. Idle) s [] 0xF0) low in
       (d .held ∙ ap (λ (fs : FinishesOf rules). heldAfter rules (w .held) fs) (d .order ∙ n .0), d .each ∙ ap (λ (l : SaidsOf rules). said (rules .plain 0) [] ∷ l) (n .1))
