@@ -3,7 +3,7 @@ use Prim.Native.Nat.{ℕ, zero, suc, _+_, _≤_, _<_}
 use mathlib.Core.Bool.{true, false}
 use mathlib.Core.List.{List, [], _∷_, _++_, map}
 use mathlib.Core.Logic.{inl, inr}
-use mathlib.Core.Path.{_≡_, refl, sym, ap, _∙_}
+use mathlib.Core.Path.{_≡_, refl, sym, ap, _∙_, subst}
 use native.Mathlib.Omega.{arith}
 use lib.ListN.{length, getD, take, drop, length-take, length-drop, List·getD-append}
 use lib.Seq.{take-at, drop-at}
@@ -28,14 +28,14 @@ use Rattle.sockets.proofs.Fed.{At, idle-heard, again-heard, behind, channel-sta
 use Rattle.sysex.specs.declared.Settings.{Settings}
 use Rattle.sysex.specs.declared.Answer.{Answer}
 use Rattle.sysex.specs.declared.Answer.the-variants.{Taken}
-use Rattle.sysex.specs.Numbers.{answerNumber}
-use Rattle.sysex.specs.Carrying.{Left}
+use Rattle.sysex.specs.Numbers.{refused, answerNumber}
+use Rattle.sysex.specs.Carrying.{Outcome}
 use Rattle.podbox.specs.declared.Move.{Move}
 use Rattle.podbox.specs.Settings.{isValid}
 use Rattle.podbox.specs.Messages.{changeAnswer, controllerDoes, channelDoes, messageDoes}
 use Rattle.podbox.specs.Moves.{moveMessage}
 use Rattle.podbox.specs.Box.{limit, panel, Moves, handsOf, movesTests, noted, boxRules, movesOf}
-use Rattle.podbox.proofs.OwnChannel.{valid-channel, on-channel, controller-length}
+use Rattle.podbox.proofs.OwnChannel.{valid-channel, on-channel}
 use Rattle.demands.specs.EditAlone.{EditAlone}
 use Rattle.demands.specs.Moves.{sentOn, OneByOne, movesBytes, AllData, byBytes, ListNumber, MoveNumber, AnsweredList}
 use Rattle.demands.proofs.Passed.{moves-passed, moves-cases}
@@ -129,3 +129,106 @@ module _ (kindNumber : ℕ) (settings : Settings) where
         let o = messageDoes (kindOf kindNumber) settings (socketNumber s) held (moveMessage settings move) in
         ap noted (next-answers move moves before out low held)
         ∙ ap (λ (l : List ℕ). 0 ∷ 0 ∷ answerNumber (o .answer) ∷ l) (bytes-answer moves (o .held) _ (next-outside move moves before out low) (low .2))
+
+  -- what a list leaves that is not turned away, and its numbers
+  abbrev listNumbers : List Move → Held → List ℕ
+  listNumbers moves held = noted (saidsOf (boxRules kindNumber settings) held (handing (handsOf settings (Moves moves))))
+
+  numbers-written : (moves : List Move) (held : Held) (numbers : List ℕ) → take (length moves) (written (listNumbers moves held) numbers) ≡ listNumbers moves held
+  numbers-written moves held numbers =
+      take-at (listNumbers moves held) (drop (length (listNumbers moves held)) numbers) (length moves) (noted-length kindNumber settings held moves)
+
+  -- "feeding those bytes to a fresh socket gives the same": either socket, whatever the other one heard before
+  pub list-fed : (moves : List Move) (numbers : List ℕ) (s : Socket) (w v : WorldOf (boxRules kindNumber settings)) (saids : SaidsOf (boxRules kindNumber settings)) → AllData moves
+      → AllHold (movesTests kindNumber settings moves (w .held) numbers) → Fresh (boxRules kindNumber settings) w
+      → History (boxRules kindNumber settings) w (feed s (movesBytes settings moves)) v saids
+      → (let l = movesOf kindNumber settings moves (w .held) numbers in (v .held ≡ l .held) × (noted saids ≡ byBytes (take (length moves) (l .reply))))
+  list-fed moves numbers s w v saids low all new history =
+      let valid = all .1 .1 .1 .1 .0 in
+      let rules = boxRules kindNumber settings in
+      let d = box-demand3 kindNumber settings w v (feed s (movesBytes settings moves)) saids new history in
+      let finished = d .order ∙ bytes-finish valid s moves [] (fresh-outside valid s) low in
+      rw (moves-passed kindNumber settings moves (w .held) numbers all) (
+        d .held ∙ ap (heldAfter rules (w .held)) finished ∙ sym (same-held s moves (w .held)),
+        ap noted (d .each) ∙ bytes-answer valid s moves (w .held) [] (fresh-outside valid s) low
+            ∙ ap (λ (l : List (Said Answer)). byBytes (noted l)) (sym (same-saids s moves (w .held))) ∙ ap byBytes (sym (numbers-written moves (w .held) numbers)),
+      )
+
+-- what a list does to the edit buffer alone, and the numbers of its moves
+module _ (kind : Kind) (player : ℕ) (held : Held) (m : memorySize kind ≤ length (held .memory)) (controller value : ℕ) where
+  controller-alone : EditAlone kind player held (controllerDoes kind player controller value held .held)
+  controller-alone =
+      let edit = bytesIn kind player Edit held in
+      let whole : length edit ≡ sizeOf kind = simp (length-take, length-drop) (omega arith) in
+      edit-alone kind player held m (applyOf kind controller value edit .edit) (length-kept kind controller value edit ∙ whole)
+
+  controller-numbered : MoveNumber (answerNumber (controllerDoes kind player controller value held .answer))
+  controller-numbered =
+      let edit = bytesIn kind player Edit held in
+      let whole : length edit ≡ sizeOf kind = simp (length-take, length-drop) (omega arith) in
+      apply-cases kind controller value edit (λ (l : Changed). MoveNumber (answerNumber (changeAnswer (l .answer))))
+      (λ short. absurd (omega arith)) (λ number lo hi. inr (lo, hi)) (λ _ _. inl refl)
+
+alone-same : (kind : Kind) (player : ℕ) (held : Held) → EditAlone kind player held held
+alone-same kind player held = record { programs-stay = λ _ _. refl; else-stays = λ _ _. refl; length-stays = refl }
+
+alone-more : (kind : Kind) (player : ℕ) (a b c : Held) → EditAlone kind player a b → EditAlone kind player b c → EditAlone kind player a c
+alone-more kind player a b c e f = record {
+  programs-stay = λ p h. f .programs-stay p h ∙ e .programs-stay p h;
+  else-stays = λ k h. f .else-stays k h ∙ e .else-stays k h;
+  length-stays = f .length-stays ∙ e .length-stays;
+}
+
+module _ (kindNumber : ℕ) (settings : Settings) (valid : isValid settings ≡ true) where
+  move-alone : (move : Move) (held : Held) → memorySize (kindOf kindNumber) ≤ length (held .memory)
+      → EditAlone (kindOf kindNumber) panel held (messageDoes (kindOf kindNumber) settings panel held (moveMessage settings move) .held)
+  move-alone move held m =
+      subst (λ (o : Outcome). EditAlone (kindOf kindNumber) panel held (o .held)) (sym (on-channel (kindOf kindNumber) settings panel held move valid))
+      (controller-alone (kindOf kindNumber) panel held m (move .controller) (move .value))
+
+  list-alone : (moves : List Move) (held : Held) → memorySize (kindOf kindNumber) ≤ length (held .memory)
+      → EditAlone (kindOf kindNumber) panel held (heldAfter (boxRules kindNumber settings) held (handing (handsOf settings (Moves moves))))
+  list-alone [] held m = alone-same (kindOf kindNumber) panel held
+  list-alone (move ∷ moves) held m =
+      let one = move-alone move held m in
+      let kept = one .length-stays in
+      alone-more (kindOf kindNumber) panel held _ _ one (list-alone moves _ (omega (arith, kept)))
+
+  list-numbered : (moves : List Move) (held : Held) → memorySize (kindOf kindNumber) ≤ length (held .memory) → (i : ℕ) → i < length moves
+      → MoveNumber (getD (listNumbers kindNumber settings moves held) i 0)
+  list-numbered [] held m i h = absurd (omega arith)
+  list-numbered (move ∷ moves) held m zero h =
+      rw (on-channel (kindOf kindNumber) settings panel held move valid) (controller-numbered (kindOf kindNumber) panel held m (move .controller) (move .value))
+  list-numbered (move ∷ moves) held m (suc i) h =
+      let kept = move-alone move held m .length-stays in
+      list-numbered moves _ (omega (arith, kept)) i (omega arith)
+
+-- Every list of moves.
+pub every-list : (kindNumber : ℕ) (settings : Settings) (moves : List Move) (held : Held) (numbers : List ℕ)
+    → AnsweredList (kindOf kindNumber) moves held numbers (movesOf kindNumber settings moves held numbers)
+every-list kindNumber settings moves held numbers =
+    moves-cases kindNumber settings moves held numbers (AnsweredList (kindOf kindNumber) moves held numbers)
+    (turned 30 (omega arith) (inr (inl refl)))
+    (λ number lo hi. turned number (omega arith) (inr (inr (lo, hi))))
+    (λ all.
+    let m = leb-true _ _ (all .1 .1 .1 .0) in
+    let valid = all .1 .1 .1 .1 .0 in
+    let long = noted-length kindNumber settings held moves in
+    record {
+      numbered = inl refl;
+      turned-away = λ h. absurd (omega arith);
+      each = λ _ i h. rw (List·getD-append (listNumbers kindNumber settings moves held) (drop (length (listNumbers kindNumber settings moves held)) numbers) 0 i (omega (arith, long)))
+          (list-numbered kindNumber settings valid moves held m i h);
+      behind = drop-at (listNumbers kindNumber settings moves held) (drop (length (listNumbers kindNumber settings moves held)) numbers) (length moves) long
+          ∙ ap (λ (n : ℕ). drop n numbers) long;
+      alone = list-alone kindNumber settings valid moves held m;
+    })
+  where
+    turned : (number : ℕ) → 30 ≤ number → ListNumber number → AnsweredList (kindOf kindNumber) moves held numbers (left (refused number) held numbers)
+    turned number from in-table = record {
+      numbered = in-table;
+      turned-away = λ _. (refl, refl);
+      each = λ none. absurd (omega (arith, none));
+      behind = refl;
+      alone = alone-same (kindOf kindNumber) panel held;
+    }
