@@ -9,7 +9,8 @@ use Rattle.framing.specs.declared.Receiver.{Receiver}
 use Rattle.sockets.specs.Box.{took}
 use Rattle.sockets.proofs.OneResult.{took-one}
 use Rattle.sysex.specs.declared.Settings.{Settings}
-use Rattle.costerbloom.specs.Numbers.{takeNumbers, wholeNumbers, scaleNumber, backNumber}
+use Rattle.podbox.specs.declared.Move.{Move}
+use Rattle.costerbloom.specs.Numbers.{takeNumbers, wholeNumbers, movesNumbers, scaleNumber, backNumber}
 
 pub costerbloom-take-one : (kindNumber : ℕ) (settings : Settings) (socket : ℕ) (receiver : Receiver) (byte : ℕ) (held : Held) (receive reply : List ℕ) (r s : Receiver) (a b : ℕ) (m n : Held) (x y o p : List ℕ)
     → took r a m x o ≡ takeNumbers kindNumber settings socket receiver byte held receive reply → took s b n y p ≡ takeNumbers kindNumber settings socket receiver byte held receive reply
@@ -19,6 +20,10 @@ costerbloom-take-one kindNumber settings socket receiver byte held receive reply
 pub costerbloom-whole-one : (kindNumber : ℕ) (settings : Settings) (message : List ℕ) (held : Held) (reply : List ℕ) (a b : ℕ) (m n : Held) (x y : List ℕ)
     → left a m x ≡ wholeNumbers kindNumber settings message held reply → left b n y ≡ wholeNumbers kindNumber settings message held reply → (a ≡ b) × (m ≡ n) × (x ≡ y)
 costerbloom-whole-one kindNumber settings message held reply a b m n x y = left-one
+
+pub costerbloom-moves-one : (kindNumber : ℕ) (settings : Settings) (moves : List Move) (held : Held) (numbers : List ℕ) (a b : ℕ) (m n : Held) (x y : List ℕ)
+    → left a m x ≡ movesNumbers kindNumber settings moves held numbers → left b n y ≡ movesNumbers kindNumber settings moves held numbers → (a ≡ b) × (m ≡ n) × (x ≡ y)
+costerbloom-moves-one kindNumber settings moves held numbers a b m n x y = left-one
 
 pub costerbloom-scale-one : (kindNumber controller value : ℕ) (r s : ℕ) → r ≡ scaleNumber kindNumber controller value → s ≡ scaleNumber kindNumber controller value → r ≡ s
 costerbloom-scale-one kindNumber controller value r s = one

@@ -1,14 +1,15 @@
--- A call is refused with a number exactly when that test fails and every earlier one holds: a byte's, the panel's, scaling and showing back.
-use Prim.Native.Nat.{ℕ, _≤_}
+-- A call is refused with a number exactly when that test fails and every earlier one holds: a byte's, the panel's, a list's and each of its moves, scaling and
+-- showing back.
+use Prim.Native.Nat.{ℕ, _≤_, _<_}
 use mathlib.Core.Bool.{Bool, true, false, cond}
 use mathlib.Core.List.{List, [], _∷_, map}
 use mathlib.Core.Logic.{⊎-elim, _↔_}
 use mathlib.Core.Path.{_≡_, refl, sym, ap, _∙_}
 use native.Mathlib.Omega.{arith}
 use lib.ListN.{length, length-take, length-drop}
-use borrow.Author.Tests.{le-leb, leb-true}
+use borrow.Author.Tests.{le-leb, leb-true, lt-leb, eq-eqb}
 use Rattle.ground.specs.Tests.{Test, test, tested, FirstToFail, renamed}
-use Rattle.ground.specs.Calls.{left}
+use Rattle.ground.specs.Calls.{left, leaves}
 use Rattle.ground.proofs.Tests.{by}
 use Rattle.ground.proofs.InOrder.{tested-map, tested-renamed, tested-append, tested-when, tested-failed, tested-exactly}
 use Rattle.kinds.specs.declared.Kind.{Kind}
@@ -25,12 +26,15 @@ use Rattle.controls.specs.Answers.{refusalOf, valueOf}
 use Rattle.controls.specs.Fields.{numberIn}
 use Rattle.controls.specs.Scaling.{scaleOf}
 use Rattle.controls.specs.Showing.{shownOf, backTests, backOf}
+use Rattle.controls.specs.Meaning.{controllersOf, isIn}
+use Rattle.controls.proofs.Rows.{row-sane}
+use Rattle.controls.proofs.Listed.{listed-exactly, above-127}
 use Rattle.controls.proofs.Controllers.{applied-tested}
 use Rattle.controls.proofs.Back.{formed, row-shown}
 use Rattle.framing.specs.declared.Receiver.{Receiver}
 use Rattle.framing.specs.Bytes.{stepOf}
 use Rattle.sockets.specs.Framer.{Message, SysEx, TooLong, Channel, Happening, Nothing, Cut, Finished}
-use Rattle.sockets.specs.Box.{lent, took, happeningDoes}
+use Rattle.sockets.specs.Box.{lent, took, happeningDoes, directDoes}
 use Rattle.sockets.specs.Promise.{happeningOf, socketNumber, socketOf, stepDoes, byteOf, directOf}
 use Rattle.sysex.specs.declared.Settings.{Settings}
 use Rattle.sysex.specs.declared.Order.{Order}
@@ -42,10 +46,14 @@ use Rattle.sysex.specs.Numbers.{refused, answerNumber, checkNumber}
 use Rattle.sysex.specs.Judging.{testsOf, judgedBy, bodyOrder, judgeOf}
 use Rattle.sysex.specs.Carrying.{Outcome, Left, heldTest, refusing, orderDoes}
 use Rattle.sysex.proofs.Numbered.{passed-done, done-not-refused}
+use Rattle.podbox.specs.declared.Move.{Move}
+use Rattle.podbox.specs.Settings.{isValid}
 use Rattle.podbox.specs.Messages.{isController, channelTests, changeAnswer, controllerDoes, programChangeDoes, channelDoes, messageDoes}
 use Rattle.podbox.specs.Whole.{bodyOf, messageTests, messageOrder}
-use Rattle.podbox.specs.Box.{Took, limit, kindTest, panel, plainAnswer, boxRules, takeTests, wholeTests, takeOf, wholeOf}
+use Rattle.podbox.specs.Moves.{moveMessage}
+use Rattle.podbox.specs.Box.{Took, limit, kindTest, panel, Moves, plainAnswer, boxRules, takeTests, wholeTests, movesTests, takeOf, wholeOf, movesOf}
 use Rattle.podbox.proofs.Taking.{sender}
+use Rattle.podbox.proofs.OwnChannel.{on-channel}
 use Rattle.costerbloom.specs.Numbers.{scaleCall, memoryBack, backCall}
 use Rattle.demands.specs.Order.{finishTests, byteTests, panelTests, scalingTests, isValue, showingTests}
 
@@ -153,6 +161,37 @@ module _ (kindNumber : ℕ) (settings : Settings) (message : List ℕ) (held : H
   panel-order number =
       in-order (panelTests kindNumber settings message held reply) _ _ number
       (done-not-refused (kindOf kindNumber) settings panel (bodyOf message) held number (bodyOrder (bodyOf message)) (passed-done (bodyOf message))) whole-tested
+
+-- A list of moves: 33, 34, 32 for the kind, 30, 32.
+pub list-order : (kindNumber : ℕ) (settings : Settings) (moves : List Move) (held : Held) (numbers : List ℕ) (number : ℕ)
+    → (movesOf kindNumber settings moves held numbers .answer ≡ refused number) ↔ FirstToFail (movesTests kindNumber settings moves held numbers) number
+unfolding directOf
+list-order kindNumber settings moves held numbers number =
+    let ts = movesTests kindNumber settings moves held numbers in
+    in-order ts _ answer.Taken number (λ e. let z : _≡_ {A = ℕ} 0 1 = cc in omega arith)
+    (tested-map (λ (l : Left). l .answer) ts (λ n. left (plainAnswer n) held numbers) (leaves (directDoes (boxRules kindNumber settings) held (Moves moves)) numbers))
+
+-- Each of its moves, "in the usual order": 17, 18, 19.
+module _ (kind : Kind) (settings : Settings) (valid : isValid settings ≡ true) (player : ℕ) (held : Held) (m : memorySize kind ≤ length (held .memory)) (move : Move) where
+  abbrev moveAnswer : Answer
+  moveAnswer = messageDoes kind settings player held (moveMessage settings move) .answer
+
+  sent-tested : moveAnswer ≡ tested (moveTests (rowOf kind (move .controller)) (move .value) (bytesIn kind player Edit held)) refused answer.Applied
+  sent-tested = ap (λ (o : Outcome). o .answer) (on-channel kind settings player held move valid) ∙ move-tested kind settings player held m (move .controller) (move .value)
+
+  pub move-order : (number : ℕ) → (moveAnswer ≡ refused number) ↔ FirstToFail (moveTests (rowOf kind (move .controller)) (move .value) (bytesIn kind player Edit held)) number
+  move-order number =
+      in-order (moveTests (rowOf kind (move .controller)) (move .value) (bytesIn kind player Edit held)) moveAnswer answer.Applied number
+      (λ e. let z : _≡_ {A = ℕ} 0 1 = cc in omega arith) sent-tested
+
+  -- "a controller above 127 is 17, a value above 127 is 18, in the usual order"
+  pub high-controller : 127 < move .controller → moveAnswer ≡ refused 17
+  high-controller high = sent-tested ∙ (rw (eq-eqb _ 0 (above-127 kind (move .controller) high)))
+
+  pub high-value : isIn (move .controller) (controllersOf kind) ≡ true → 127 < move .value → moveAnswer ≡ refused 18
+  high-value listed high =
+      let low = row-sane kind (move .controller) .low in
+      sent-tested ∙ (rw (listed-exactly kind (move .controller) ∙ listed, lt-leb (move .value) (rowOf kind (move .controller) .highest) (omega arith)))
 
 -- Scaling: 32 for the kind, 17, 18. Showing back: 32 for the kind, 30, 17, 19, 40.
 reading-order : (ts : List (Test ℕ)) (given : Reading) (value number : ℕ) → given ≡ tested ts reading.Refused (reading.Value value) → (given ≡ reading.Refused number) ↔ FirstToFail ts number

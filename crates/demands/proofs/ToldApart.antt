@@ -22,12 +22,16 @@ use Rattle.sysex.specs.declared.Settings.{Settings}
 use Rattle.sysex.specs.declared.Answer.{Answer}
 use Rattle.sysex.specs.Forms.{longest}
 use Rattle.sysex.specs.Numbers.{answerNumber, answerLength}
-use Rattle.sysex.specs.Carrying.{heldTest}
+use Rattle.sysex.specs.Carrying.{Left, heldTest}
 use Rattle.sysex.proofs.Lengths.{longest-bounds}
-use Rattle.podbox.specs.Box.{kindTest, panel, takeOf, wholeOf}
-use Rattle.costerbloom.specs.Numbers.{packed, readingNumber, takeNumbers, wholeNumbers, scaleCall, scaleNumber, memoryBack, backCall, backNumber}
+use Rattle.podbox.specs.declared.Move.{Move}
+use Rattle.podbox.specs.Box.{kindTest, panel, takeOf, wholeOf, movesOf}
+use Rattle.costerbloom.specs.Numbers.{packed, readingNumber, takeNumbers, wholeNumbers, movesNumbers, scaleCall, scaleNumber, memoryBack, backCall, backNumber}
 use Rattle.demands.specs.Answered.{ByteNumber, PanelNumber}
+use Rattle.demands.specs.Moves.{ListNumber}
 use Rattle.demands.specs.Told.{Told, Apart}
+use Rattle.demands.proofs.Passed.{moves-cases}
+use Rattle.demands.proofs.ManyMoves.{every-list}
 use Rattle.demands.proofs.EveryCall.{every-byte, every-message}
 
 -- an answer's parts have room in their bits
@@ -53,6 +57,15 @@ pub whole-told : (kindNumber : ℕ) (settings : Settings) (message : List ℕ) (
     → Told (wholeOf kindNumber settings message held reply .answer) (wholeNumbers kindNumber settings message held reply .answer)
 unfolding wholeNumbers
 whole-told kindNumber settings message held reply = let a = every-message kindNumber settings message held reply in told (kindOf kindNumber) _ (panel-small _ (a .numbered)) (a .confined .fits)
+
+pub moves-told : (kindNumber : ℕ) (settings : Settings) (moves : List Move) (held : Held) (numbers : List ℕ)
+    → (let answer = movesOf kindNumber settings moves held numbers .answer in
+    (movesNumbers kindNumber settings moves held numbers .answer ≡ answerNumber answer) × ListNumber (answerNumber answer))
+unfolding movesNumbers packed
+moves-told kindNumber settings moves held numbers = (
+  moves-cases kindNumber settings moves held numbers (λ (l : Left). packed (l .answer) ≡ answerNumber (l .answer)) refl (λ number lo hi. omega arith) (λ all. refl),
+  every-list kindNumber settings moves held numbers .numbered,
+)
 
 scaled-apart : (kind : Kind) (controller value : ℕ) → Apart (scaleOf kind controller value) (readingNumber (scaleOf kind controller value))
 unfolding scaleOf readingNumber

@@ -73,7 +73,13 @@ fn is_program_change(status: u8, number: u8, kind: Kind) -> bool
     false
 }
 
-pub(crate) fn controller(number: u8, value: u8, player: u32, kind: Kind, memory: &mut [u8]) -> Answer
+pub(crate) fn controller(
+    number: u8,
+    value: u8,
+    player: u32,
+    kind: Kind,
+    memory: &mut [u8],
+) -> Answer
     requires { ⌜ HoldsMemory kind (now memory) ⌝ }
     ensures { λ r. ⌜ outcome r (heldOf (now (memory .exit))) [] ≡ controllerDoes kind player number value (heldOf (now (memory .entry))) ⌝ }
 {
