@@ -1,10 +1,13 @@
 // The calls of the box and of the controllers, and the line of each answer.
+use crate::buffers;
 use crate::buffers::Buffer;
 use crate::buffers::Memory;
 use crate::desk;
 use crate::desk::Desk;
 use crate::print;
+use podbox::Move;
 use podbox::Took;
+use sysex::Answer;
 
 pub(crate) fn whole(
     desk: Desk,
@@ -103,6 +106,52 @@ fn take(
         &mut receive[..receive_end],
         &mut reply[..reply_end],
     )
+}
+
+// The moves that the message holds, two bytes each. They are made one by one through the box's own functions: a slice of
+// structs, which the C call takes, is not covered in a caller.
+pub(crate) fn moves(
+    desk: Desk,
+    message: &[u8],
+    memory: &mut Memory,
+    receive0: &[u8],
+    receive1: &[u8],
+    reply: &mut Buffer,
+) -> Desk {
+    let answer = list_answer(desk, message.len() / 2, memory, reply);
+    if let Answer::Taken = answer {
+        make_moves(desk, message, memory, reply);
+    }
+    print::listed(desk, answer, memory, receive0, receive1, reply);
+    desk::counted(desk)
+}
+
+// What a list of so many moves is answered, by what is lent of memory and, for the numbers, of the reply buffer.
+fn list_answer(desk: Desk, count: usize, memory: &[u8], reply: &[u8]) -> Answer {
+    let memory_end = io::count(desk.lent.memory as isize, memory);
+    let reply_end = io::count(desk.lent.reply as isize, reply);
+    podbox::list_answer(count, desk.kind, desk.settings, memory_end, reply_end)
+}
+
+// Move after move, the number of each at its place. The test is for the proof alone: a longer list is refused.
+fn make_moves(desk: Desk, message: &[u8], memory: &mut Memory, numbers: &mut Buffer) {
+    for i in 0..message.len() / 2 {
+        if i < buffers::SIZE {
+            numbers[i] = moved(desk, message[2 * i], message[2 * i + 1], memory);
+        }
+    }
+}
+
+// The number of one move, made in what is lent of memory.
+fn moved(desk: Desk, controller: u8, value: u8, memory: &mut [u8]) -> u8 {
+    let end = io::count(desk.lent.memory as isize, memory);
+    let answer = podbox::make_move(
+        Move { controller, value },
+        podbox::PANEL,
+        kinds::kind_of(desk.kind),
+        &mut memory[..end],
+    );
+    sysex::answer_number(answer)
 }
 
 // What scaling the controller gives for a value.

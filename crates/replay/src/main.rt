@@ -84,6 +84,7 @@ fn called(
         b'W' => calls::whole(desk, whole, memory, receive0, receive1, reply),
         b'S' => calls::on_socket(desk, socket, &byte, memory, receive0, receive1, reply),
         b'M' => calls::on_socket(desk, socket, whole, memory, receive0, receive1, reply),
+        b'V' => calls::moves(desk, whole, memory, receive0, receive1, reply),
         b'K' => calls::scale(desk, script::wide(command)),
         b'D' => calls::show_back(desk, memory),
         _ => desk,

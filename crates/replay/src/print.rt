@@ -39,6 +39,22 @@ pub(crate) fn answered(
     }
 }
 
+// The line of a list of moves, and a second with their numbers where they were made. So few are made that the message is as
+// long as the desk says.
+pub(crate) fn listed(
+    desk: Desk,
+    answer: Answer,
+    memory: &[u8],
+    receive0: &[u8],
+    receive1: &[u8],
+    reply: &[u8],
+) {
+    answered(b'V', desk, answer, memory, receive0, receive1, reply);
+    if let Answer::Taken = answer {
+        hex(b'n', reply, desk.length / 2);
+    }
+}
+
 // The line of a controller's value, or of its refusal.
 pub(crate) fn value(letter: u8, desk: Desk, value: u32) {
     io::write_all(STDOUT_FILENO, &[letter]);
