@@ -1,6 +1,7 @@
 pub mod Marked
 pub mod Raised
 pub mod Bass
+pub mod Scenes
 pub mod Why
 pub mod ShutOut
 pub mod Unwritten

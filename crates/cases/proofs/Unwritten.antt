@@ -23,7 +23,7 @@ use Rattle.sysex.specs.Forms.{longest}
 use Rattle.sysex.specs.Numbers.{answerLength}
 use Rattle.sysex.specs.Carrying.{Outcome, Left}
 use Rattle.podbox.specs.Whole.{bodyOf, messageOrder}
-use Rattle.podbox.specs.Box.{limit, takeTests, wholeTests, panel, plainAnswer, boxRules}
+use Rattle.podbox.specs.Box.{limit, takeTests, wholeTests, panel, Whole, plainAnswer, boxRules}
 use Rattle.demands.proofs.Tells.{Tells, order-tells, message-tells}
 use Rattle.cases.specs.ShutOut.{pod, promised, ShutOut, ShutOutWhole, Unwritten, leftBy, TellsUnwritten, TellsUnwrittenWhole}
 use Rattle.cases.proofs.ShutOut.{shut, shut-whole}
@@ -84,5 +84,5 @@ unfolding directOf
 unwritten-whole =
     shut-whole TellsUnwrittenWhole (λ bad.
     let (settings, message, held, k, call) = bad in
-    never-unwritten k (directDoes (boxRules pod settings) held message) held (wholeTests pod settings held)
+    never-unwritten k (directDoes (boxRules pod settings) held (Whole message)) held (wholeTests pod settings held)
     (order-tells (kindOf pod) settings panel held (messageOrder (kindOf pod) settings message) (bodyOf message)) call)

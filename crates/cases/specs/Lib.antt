@@ -5,3 +5,4 @@ pub mod Raised
 pub mod Bass
 pub mod Why
 pub mod ShutOut
+pub mod Scenes
