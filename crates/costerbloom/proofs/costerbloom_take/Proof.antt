@@ -2,7 +2,7 @@
 -- The receiver by reference: a walk of the function's MIR, since the borrow checker covers no reference to a struct.
 -- The receiver's borrow is opened and the receiver read whole; `take` is called on it, and on all else as it came; the receiver that it returns is stored
 -- whole, and the borrow is closed at it. Of `take` the walk knows its contract alone. What is promised here is what `take` ensures, so that the promise is not
--- looked into. The numbers in the steps are places in the list of what is held; a comment names them where they are needed.
+-- looked into. The numbers in the steps are places in the list of what is held; walk/take.py has the names.
 use mathlib.Core.Path.{refl, ap}
 use Prim.Native.Nat.{ℕ, _<_, _^_}
 use mathlib.Core.List.{[], _∷_, List}
@@ -68,13 +68,13 @@ answer-fits r w is = LL.owed U.the-type U′.the-laws r _ is .1 .0 .1
 
 module _ {M : Type 1} (𝓤 : URA M) (H : Heap 𝓤) (A : Atoms 𝓤) (at-mem : Memory → SProp 𝓤) (run : Routine → Fun 𝓤) where
   -- the contracts of `take`, and of the function itself
-  abbrev Callee : Contract 𝓤
-  Callee = tripleOf 𝓤 H A that.signature (that.spec 𝓤 H A at-mem run)
+  abbrev Take : Contract 𝓤
+  Take = tripleOf 𝓤 H A that.signature (that.spec 𝓤 H A at-mem run)
 
   abbrev Own : Contract 𝓤
   Own = tripleOf 𝓤 H A this.signature (this.spec 𝓤 H A at-mem run)
 
-  module _ (W : Given 𝓤 H A) (𝓣 : Tables 𝓤 H) (known : Triple 𝓤 (𝓣 .C #costerbloom·take) Callee) where
+  module _ (W : Given 𝓤 H A) (𝓣 : Tables 𝓤 H) (known-take : Triple 𝓤 (𝓣 .C #costerbloom·take) Take) where
     -- at the lifetimes κs, of which the first is the receiver's, at a share of each, and at the parameters
     module _ (κs : Lfts (this.signature .lifetimes)) (qs : Shares (this.signature .lifetimes)) (a : Args this.signature κs) where
       abbrev receiver : Receiver
@@ -110,7 +110,7 @@ module _ {M : Type 1} (𝓤 : URA M) (H : Heap 𝓤) (A : Atoms 𝓤) (at-mem : 
       abbrev called : Args that.signature (κs .1)
       called = (receiver, a .1)
 
-      abbrev to-call : Callee .Ghost
+      abbrev to-call : Take .Ghost
       to-call = ((κs .1, qs .1, tt, called, (mach receiver ∷ [], values .1)), tt)
 
       -- what it gives back: the tokens, what it returns, the last lists of the slices, and what it ensures
@@ -130,76 +130,71 @@ module _ {M : Type 1} (𝓤 : URA M) (H : Heap 𝓤) (A : Atoms 𝓤) (at-mem : 
 
       walk : (vs : Vals this.signature κs) → ent 𝓤 (onEntry 𝓤 H A this.signature κs qs a vs) (Walked vs)
       walk vs = said 𝓤 H A this.signature κs qs spelled tells a Walked vs (λ are. qed W ((‵ (flft (κs .0) (qs .0)) ⊛ tokens) ∷ ‵ (owns rows a values) ∷ []) ∵
-          enter ! _ _ _ _ _ $
-          alloc1 ! (λ _. alloc1 ! (λ _. alloc1 ! (λ _. alloc1 ! (λ _. alloc1 ! (λ _. alloc1 ! (λ _. alloc1 ! (λ _. alloc1 ! (λ _. alloc1 ! (λ _. alloc1 ! (λ _.
-          alloc1 ! (λ _. alloc1 ! (λ _. alloc1 ! (λ _. alloc1 ! (λ _. alloc1 ! (λ l. alloc1 ! (λ _. alloc1 ! (λ _. alloc1 ! (λ _. alloc1 ! (λ _. alloc1 ! (λ _.
-          alloc1 ! (λ _. alloc1 ! (λ _.
-          alloc0 ! $ params1 ! $
-          pass1 ! (init ! 40 refl (tt, tt)) $ pass1 ! (init ! 38 refl (tt, record { fits = are .1 .0 .1 })) $
-          pass1 ! (init ! 36 refl (tt, record { fits = are .1 .1 .0 .1 })) $ pass1 ! (init ! 34 refl (tt, record { fits = are .1 .1 .1 .0 .1 })) $
-          pass1 ! (init ! 32 refl (tt, record { fits = are .1 .1 .1 .1 .0 .1 })) $ pass1 ! (init ! 30 refl (tt, record { fits = are .1 .1 .1 .1 .1 .0 .1 })) $
+          -- the locals are allocated, and the parameters stored
+          enter ! _ _ _ _ _ $ alloc1 ! (λ l0. alloc1 ! (λ l1. alloc1 ! (λ l2. alloc1 ! (λ l3. alloc1 ! (λ l4. alloc1 ! (λ l5. alloc1 ! (λ l6. alloc1 ! (λ l7.
+          alloc1 ! (λ l8. alloc1 ! (λ l9. alloc1 ! (λ l10. alloc1 ! (λ l11. alloc1 ! (λ l12. alloc1 ! (λ l13. alloc1 ! (λ l14. alloc1 ! (λ l15. alloc1 ! (λ l16.
+          alloc1 ! (λ l17. alloc1 ! (λ l18. alloc1 ! (λ l19. alloc1 ! (λ l20. alloc1 ! (λ l21. alloc0 ! $ params1 ! $ pass1 ! (init ! 40 refl (tt, tt)) $
+          pass1 ! (init ! 38 refl (tt, record { fits = are .1 .0 .1 })) $ pass1 ! (init ! 36 refl (tt, record { fits = are .1 .1 .0 .1 })) $
+          pass1 ! (init ! 34 refl (tt, record { fits = are .1 .1 .1 .0 .1 })) $ pass1 ! (init ! 32 refl (tt, record { fits = are .1 .1 .1 .1 .0 .1 })) $
+          pass1 ! (init ! 30 refl (tt, record { fits = are .1 .1 .1 .1 .1 .0 .1 })) $
           pass1 ! (init ! 28 refl (tt, record { fits = are .1 .1 .1 .1 .1 .1 .0 .1 })) $
           pass1 ! (init ! 26 refl (tt, record { fits = are .1 .1 .1 .1 .1 .1 .1 .0 .1 })) $
           pass1 ! (init ! 24 refl (tt, record { fits = are .1 .1 .1 .1 .1 .1 .1 .1 .0 .1 })) $
           pass1 ! (init ! 22 refl (tt, record { fits = are .1 .1 .1 .1 .1 .1 .1 .1 .1 .0 .1 })) $
           pass1 ! (init ! 20 refl (tt, (tt, (record { fits = are .1 .1 .1 .1 .1 .1 .1 .1 .1 .1 .0 .0 .1 .0 }, tt)))) $
           pass1 ! (init ! 18 refl (tt, (tt, (record { fits = are .1 .1 .1 .1 .1 .1 .1 .1 .1 .1 .1 .0 .0 .1 .0 }, tt)))) $
-          pass1 ! (init ! 16 refl (tt, (tt, (record { fits = are .1 .1 .1 .1 .1 .1 .1 .1 .1 .1 .1 .1 .0 .0 .1 .0 }, tt)))) $
-          pass0 ! $
-          -- the locals, each with its end behind it: first the result, the reference, what `take` returns and the receiver that it is called on
-          move ! (44 ∷ 45 ∷ 42 ∷ 43 ∷ 40 ∷ 41 ∷ 14 ∷ 15 ∷ 12 ∷ 13 ∷ []) $
-          -- the borrow is opened
-          move ! (1 ∷ []) $ fsplit ! $ fsplit3 ! $ drop ! $ move ! (3 ∷ []) $ split ! $ move ! (2 ∷ 3 ∷ 0 ∷ []) $ opens ! tt T.the-row _ _ (λ us.
-          spelt ! T.the-row (Is T.the-row) (shows 𝓤 H A T.the-row) (LL.vals T.the-type T′.the-laws) (LL.tells T.the-type T′.the-laws)
-          fullShare receiver us _ _ $ use1 W (‵ (cell receiver)) (W .laws .raw-at _ _ _ _ _) $ move ! (1 ∷ []) $
+          pass1 ! (init ! 16 refl (tt, (tt, (record { fits = are .1 .1 .1 .1 .1 .1 .1 .1 .1 .1 .1 .1 .0 .0 .1 .0 }, tt)))) $ pass0 ! $
+          -- the borrow is opened, and the receiver is read
+          move ! (45 ∷ []) $ fsplit ! $ fsplit3 ! $ drop ! $ move ! (47 ∷ []) $ split ! $ move ! (2 ∷ 3 ∷ 0 ∷ []) $ opens ! tt T.the-row _ _ (λ us.
+          spelt ! T.the-row (Is T.the-row) (shows 𝓤 H A T.the-row) (LL.vals T.the-type T′.the-laws)
+          (LL.tells T.the-type T′.the-laws) fullShare receiver us _ _ $ use1 W (‵ (cell receiver)) (W .laws .raw-at _ _ _ _ _) $ move ! (1 ∷ []) $
           peeks ! T.the-row (Is T.the-row) (shows 𝓤 H A T.the-row) receiver (mach receiver ∷ []) (λ was.
-          -- held: 0 own, 1 cell, 2 borrow, 3 value, 4 name, 5 tokens, 6 what the others own; 7 result, 9 reference, 11 returned, 13 receiver, 15 other locals
-          assigns ! (of-opd ! (load ! (from ! (hop ! (look ! 9 refl) (stop !))) (look ! 1 refl))) (from ! (stop !))
-          (init ! 13 refl (LL.lawful T.the-type T′.the-laws 𝓤 H A W .typed receiver _ was .0)) $
-          assigns ! (addr ! (from ! (fld ! refl (hop ! (look-in ! 31 (sub ! 0 refl (whole !))) (stop !))))) (from ! (stop !)) (init ! 25 refl (tt, tt)) $
-          assigns ! (agg ! (and-then ! (load ! (from ! (stop !)) (look ! 25 refl)) (and-then ! (load ! (from ! (fld ! refl (stop !))) (look-in ! 31 (sub ! 1 refl (whole !)))) (no-more !)))) (from ! (stop !))
-          (init ! 23 refl (tt, (tt, (record { fits = are .1 .1 .1 .1 .1 .1 .1 .1 .1 .1 .0 .0 .1 .0 }, tt)))) $
-          assigns ! (addr ! (from ! (fld ! refl (hop ! (look-in ! 29 (sub ! 0 refl (whole !))) (stop !))))) (from ! (stop !)) (init ! 21 refl (tt, tt)) $
-          assigns ! (agg ! (and-then ! (load ! (from ! (stop !)) (look ! 21 refl)) (and-then ! (load ! (from ! (fld ! refl (stop !))) (look-in ! 29 (sub ! 1 refl (whole !)))) (no-more !)))) (from ! (stop !))
-          (init ! 19 refl (tt, (tt, (record { fits = are .1 .1 .1 .1 .1 .1 .1 .1 .1 .1 .1 .0 .0 .1 .0 }, tt)))) $
+          assigns ! (of-opd ! (load ! (from ! (hop ! (look ! 47 refl) (stop !))) (look ! 1 refl))) (from ! (stop !))
+          (init ! 19 refl (LL.lawful T.the-type T′.the-laws 𝓤 H A W .typed receiver _ was .0)) $
+          -- the slices are lent
           assigns ! (addr ! (from ! (fld ! refl (hop ! (look-in ! 27 (sub ! 0 refl (whole !))) (stop !))))) (from ! (stop !)) (init ! 17 refl (tt, tt)) $
-          assigns ! (agg ! (and-then ! (load ! (from ! (stop !)) (look ! 17 refl)) (and-then ! (load ! (from ! (fld ! refl (stop !))) (look-in ! 27 (sub ! 1 refl (whole !)))) (no-more !)))) (from ! (stop !))
-          (init ! 15 refl (tt, (tt, (record { fits = are .1 .1 .1 .1 .1 .1 .1 .1 .1 .1 .1 .1 .0 .0 .1 .0 }, tt)))) $
-          -- the call, with 5 result, 7 reference, 9 returned, 11 receiver, 13 other locals
-          move ! (0 ∷ 6 ∷ []) $ fjoin ! $ move ! (5 ∷ 0 ∷ []) $ join ! $ nothing ! $ move ! (1 ∷ 0 ∷ []) $ join ! $
-          use1 W (raw (Callee .pre to-call)) (id⊢ 𝓤 _) $ calls-at ! (fmOf 𝓤 H (W .laws) 𝓣) Callee known to-call
-          (and-then ! (load ! (from ! (stop !)) (look ! 11 refl)) (and-then ! (load ! (from ! (stop !)) (look ! 47 refl))
-          (and-then ! (load ! (from ! (stop !)) (look ! 45 refl)) (and-then ! (load ! (from ! (stop !)) (look ! 43 refl))
-          (and-then ! (load ! (from ! (stop !)) (look ! 41 refl)) (and-then ! (load ! (from ! (stop !)) (look ! 39 refl))
-          (and-then ! (load ! (from ! (stop !)) (look ! 37 refl)) (and-then ! (load ! (from ! (stop !)) (look ! 35 refl))
-          (and-then ! (load ! (from ! (stop !)) (look ! 33 refl)) (and-then ! (load ! (from ! (stop !)) (look ! 31 refl))
-          (and-then ! (load ! (from ! (stop !)) (look ! 21 refl)) (and-then ! (load ! (from ! (stop !)) (look ! 17 refl))
-          (and-then ! (load ! (from ! (stop !)) (look ! 13 refl)) (no-more !)))))))))))))) (λ w.
-          use1 W (GivenBack w) (id⊢ 𝓤 _) $ await ! tt $ pick ! (λ r. split ! $ move ! (1 ∷ []) $ pick ! (λ zs. split ! $ fsplit ! $ move ! (3 ∷ []) $ split ! $
-          move ! (1 ∷ []) $ peeks ! U.the-row (Is U.the-row) (shows 𝓤 H A U.the-row) r (w ∷ []) (λ is.
-          -- held: 0 own, 1 tokens, 3 last lists, 4 promise, 5 cell, 6 borrow, 7 value, 8 name; 9 result, 11 reference, 13 returned
-          land ! (from ! (stop !)) (init ! 13 refl (LL.lawful U.the-type U′.the-laws 𝓤 H A W .typed r _ is .0)) $
-          rewrite ! 13 (λ (u : Val). ‵ (fat fullShare U′.mir l 0 u)) (ap only (LL.tells U.the-type U′.the-laws r (w ∷ []) is)) refl $
-          assigns ! (of-opd ! (load ! (from ! (fld ! refl (stop !))) (look-in ! 13 (sub ! 0 refl (whole !))))) (from ! (hop ! (look ! 11 refl) (stop !)))
+          assigns ! (agg ! (and-then ! (load ! (from ! (stop !)) (look ! 17 refl))
+          (and-then ! (load ! (from ! (fld ! refl (stop !))) (look-in ! 27 (sub ! 1 refl (whole !)))) (no-more !)))) (from ! (stop !))
+          (init ! 15 refl (tt, (tt, (record { fits = are .1 .1 .1 .1 .1 .1 .1 .1 .1 .1 .0 .0 .1 .0 }, tt)))) $
+          assigns ! (addr ! (from ! (fld ! refl (hop ! (look-in ! 25 (sub ! 0 refl (whole !))) (stop !))))) (from ! (stop !)) (init ! 13 refl (tt, tt)) $
+          assigns ! (agg ! (and-then ! (load ! (from ! (stop !)) (look ! 13 refl))
+          (and-then ! (load ! (from ! (fld ! refl (stop !))) (look-in ! 25 (sub ! 1 refl (whole !)))) (no-more !)))) (from ! (stop !))
+          (init ! 11 refl (tt, (tt, (record { fits = are .1 .1 .1 .1 .1 .1 .1 .1 .1 .1 .1 .0 .0 .1 .0 }, tt)))) $
+          assigns ! (addr ! (from ! (fld ! refl (hop ! (look-in ! 23 (sub ! 0 refl (whole !))) (stop !))))) (from ! (stop !)) (init ! 9 refl (tt, tt)) $
+          assigns ! (agg ! (and-then ! (load ! (from ! (stop !)) (look ! 9 refl))
+          (and-then ! (load ! (from ! (fld ! refl (stop !))) (look-in ! 23 (sub ! 1 refl (whole !)))) (no-more !)))) (from ! (stop !))
+          (init ! 7 refl (tt, (tt, (record { fits = are .1 .1 .1 .1 .1 .1 .1 .1 .1 .1 .1 .1 .0 .0 .1 .0 }, tt)))) $
+          -- the call
+          move ! (0 ∷ 6 ∷ []) $ fjoin ! $ move ! (5 ∷ 0 ∷ []) $ join ! $ nothing ! $ move ! (1 ∷ 0 ∷ []) $ join ! $ use1 W (raw (Take .pre to-call)) (id⊢ 𝓤 _) $
+          calls-at ! (fmOf 𝓤 H (W .laws) 𝓣) Take known-take to-call (and-then ! (load ! (from ! (stop !)) (look ! 17 refl))
+          (and-then ! (load ! (from ! (stop !)) (look ! 43 refl)) (and-then ! (load ! (from ! (stop !)) (look ! 41 refl))
+          (and-then ! (load ! (from ! (stop !)) (look ! 39 refl)) (and-then ! (load ! (from ! (stop !)) (look ! 37 refl))
+          (and-then ! (load ! (from ! (stop !)) (look ! 35 refl)) (and-then ! (load ! (from ! (stop !)) (look ! 33 refl))
+          (and-then ! (load ! (from ! (stop !)) (look ! 31 refl)) (and-then ! (load ! (from ! (stop !)) (look ! 29 refl))
+          (and-then ! (load ! (from ! (stop !)) (look ! 27 refl)) (and-then ! (load ! (from ! (stop !)) (look ! 13 refl))
+          (and-then ! (load ! (from ! (stop !)) (look ! 9 refl)) (and-then ! (load ! (from ! (stop !)) (look ! 5 refl)) (no-more !)))))))))))))) (λ w.
+          use1 W (GivenBack w) (id⊢ 𝓤 _) $ await ! tt $ pick ! (λ r. split ! $ split ! $ move ! (2 ∷ []) $ pick ! (λ zs. split ! $ fsplit ! $ move ! (4 ∷ []) $
+          peeks ! U.the-row (Is U.the-row) (shows 𝓤 H A U.the-row) r (w ∷ []) (λ is. land ! (from ! (stop !))
+          (init ! 23 refl (LL.lawful U.the-type U′.the-laws 𝓤 H A W .typed r _ is .0)) $ rewrite ! 23 (λ (u : Val). ‵ (fat fullShare U′.mir l14 0 u))
+          (ap only (LL.tells U.the-type U′.the-laws r (w ∷ []) is)) refl $
+          -- the receiver is stored, and the borrow is closed at it
+          assigns ! (of-opd ! (load ! (from ! (fld ! refl (stop !))) (look-in ! 23 (sub ! 0 refl (whole !))))) (from ! (hop ! (look ! 49 refl) (stop !)))
           (store ! 5 refl (LL.lawful T.the-type T′.the-laws 𝓤 H A W .typed (r .receiver) _ (receiver-is r w is) .0)) $
-          assigns ! (of-opd ! (load ! (from ! (fld ! refl (stop !))) (look-in ! 13 (sub ! 1 refl (whole !))))) (from ! (stop !))
-          (init ! 9 refl (tt, record { fits = answer-fits r w is })) $
-          -- the borrow is closed at the receiver that was stored
+          assigns ! (of-opd ! (load ! (from ! (fld ! refl (stop !))) (look-in ! 23 (sub ! 1 refl (whole !))))) (from ! (stop !))
+          (init ! 51 refl (tt, record { fits = answer-fits r w is })) $
           owned ! T.the-row (Is T.the-row) (LL.makes T.the-type T′.the-plain 𝓤 H A) (r .receiver) _ (receiver-is r w is) $ move ! (6 ∷ []) $
           use1 W (‵ (raw-cell (r .receiver))) (W .laws .at-raw _ _ _ _ _) $ move ! (0 ∷ 1 ∷ 7 ∷ 8 ∷ 9 ∷ []) $
           closes ! tt T.the-row (r .receiver) (mach (r .receiver) ∷ []) _ _ $ use1 W (‵ (last (r .receiver))) (W .names .obs-res _ _) $
-          -- held: 0 last value, 2 token, 4 tokens, 6 last lists, 7 promise; 8 result, 10 reference, 12 returned, 14 receiver, 16 other locals
-          returns ! (look ! 8 refl) $
-          forget ! 8 refl $ forget ! 10 refl $ forget ! 50 refl $ forget ! 48 refl $ forget ! 46 refl $ forget ! 44 refl $ forget ! 42 refl $ forget ! 40 refl $
-          forget ! 38 refl $ forget ! 36 refl $ forget ! 34 refl $ forget ! 32 refl $ forget ! 30 refl $ forget ! 28 refl $ forget ! 12 refl $
-          forget ! 14 refl $ forget ! 26 refl $ forget ! 24 refl $ forget ! 22 refl $ forget ! 20 refl $ forget ! 18 refl $ forget ! 16 refl $
-          move ! (8 ∷ 9 ∷ 10 ∷ 11 ∷ 50 ∷ 51 ∷ 48 ∷ 49 ∷ 46 ∷ 47 ∷ 44 ∷ 45 ∷ 42 ∷ 43 ∷ 40 ∷ 41 ∷ 38 ∷ 39 ∷ 36 ∷ 37 ∷ 34 ∷ 35 ∷ 32 ∷ 33 ∷ 30 ∷ 31 ∷ 28 ∷ 29 ∷ 12 ∷
-          13 ∷ 14 ∷ 15 ∷ 26 ∷ 27 ∷ 24 ∷ 25 ∷ 22 ∷ 23 ∷ 20 ∷ 21 ∷ 18 ∷ 19 ∷ 16 ∷ 17 ∷ []) $
+          -- the answer is returned, and the locals are freed
+          returns ! (look ! 50 refl) $ forget ! 50 refl $ forget ! 48 refl $ forget ! 46 refl $ forget ! 44 refl $ forget ! 42 refl $ forget ! 40 refl $
+          forget ! 38 refl $ forget ! 36 refl $ forget ! 34 refl $ forget ! 32 refl $ forget ! 30 refl $ forget ! 28 refl $ forget ! 26 refl $
+          forget ! 24 refl $ forget ! 22 refl $ forget ! 20 refl $ forget ! 18 refl $ forget ! 16 refl $ forget ! 14 refl $ forget ! 12 refl $
+          forget ! 10 refl $ forget ! 8 refl $ move ! (50 ∷ 51 ∷ 48 ∷ 49 ∷ 46 ∷ 47 ∷ 44 ∷ 45 ∷ 42 ∷ 43 ∷ 40 ∷ 41 ∷ 38 ∷ 39 ∷ 36 ∷ 37 ∷ 34 ∷ 35 ∷ 32 ∷ 33 ∷ 30 ∷
+          31 ∷ 28 ∷ 29 ∷ 26 ∷ 27 ∷ 24 ∷ 25 ∷ 22 ∷ 23 ∷ 20 ∷ 21 ∷ 18 ∷ 19 ∷ 16 ∷ 17 ∷ 14 ∷ 15 ∷ 12 ∷ 13 ∷ 10 ∷ 11 ∷ 8 ∷ 9 ∷ []) $ free1 ! $ free1 ! $ free1 ! $
           free1 ! $ free1 ! $ free1 ! $ free1 ! $ free1 ! $ free1 ! $ free1 ! $ free1 ! $ free1 ! $ free1 ! $ free1 ! $ free1 ! $ free1 ! $ free1 ! $ free1 ! $
-          free1 ! $ free1 ! $ free1 ! $ free1 ! $ free1 ! $ free1 ! $ free1 ! $
-          free0 ! $
+          free1 ! $ free1 ! $ free1 ! $ free1 ! $ free0 ! $
           -- the exit
-          keep ! (2 ∷ 4 ∷ 0 ∷ 6 ∷ 7 ∷ []) $ join ! $ updating ! $ at-once ! $ show ! (Answers (vint w64 (r .answer))) (r .answer) $
+          keep ! (2 ∷ 7 ∷ 0 ∷ 5 ∷ 6 ∷ []) $ join ! $ updating ! $ at-once ! $ show ! (Answers (vint w64 (r .answer))) (r .answer) $
           owned ! u64 (Is u64) (uint-makes 𝓤 H A W w64) (r .answer) _ (refl, answer-fits r w is) $ move ! (1 ∷ 0 ∷ []) $ join ! $ frame ! $
           show ! (Ends (r .answer)) (r .receiver, zs .1) $ fjoin ! $ done !)))))))))))))))))))))))))))))
 
@@ -212,4 +207,4 @@ costerbloom-take-spec 𝓤 H 𝓜 𝓖 𝓡 =
     entered 𝓤 H (Own 𝓤 H (𝓖 .A) (𝓜 .mem) (𝓡 .run)) (tables 𝓤 H 𝓜 𝓡 code.env .C) (tables 𝓤 H 𝓜 𝓡 code.env .Λ) #costerbloom·costerbloom-take
     code.function (code.unfolded 𝓤 H 𝓜 𝓡)
     (meets 𝓤 H (𝓖 .A) (𝓜 .mem) (𝓡 .run) (givenOf 𝓤 H 𝓜 𝓖) (tablesOf 𝓤 H 𝓜 (tables 𝓤 H 𝓜 𝓡 code.env))
-    (cited 𝓤 H (Callee 𝓤 H (𝓖 .A) (𝓜 .mem) (𝓡 .run)) 𝓜 𝓡 code.env #costerbloom·take that-def.routine code.calls-costerbloom·take (that-thm.met 𝓤 H 𝓜 𝓖 𝓡)))
+    (cited 𝓤 H (Take 𝓤 H (𝓖 .A) (𝓜 .mem) (𝓡 .run)) 𝓜 𝓡 code.env #costerbloom·take that-def.routine code.calls-costerbloom·take (that-thm.met 𝓤 H 𝓜 𝓖 𝓡)))
