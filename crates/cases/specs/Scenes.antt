@@ -1,15 +1,13 @@
 -- Req 05: "Our lighting desk sends scenes as knob moves." Lists on a fresh box, and one run with two sockets, lists and a panel message between their bytes.
-use Prim.Native.Nat.{ℕ, _+_, _-_}
-use mathlib.Core.List.{List, [], _∷_, _++_, map}
-use lib.ListN.{length, getD, replicate, drop}
+use Prim.Native.Nat.{ℕ}
+use mathlib.Core.List.{List, [], _∷_, map}
+use lib.ListN.{getD, replicate}
 use Rattle.kinds.specs.declared.Kind.{Kind}
 use Rattle.kinds.specs.declared.Kind.the-variants.{Pod, BassPod}
 use Rattle.kinds.specs.Kinds.{numberOf}
-use Rattle.programs.specs.Memory.{memorySize, editPlace}
 use Rattle.programs.specs.Held.{Held, heldOf, Edit, bytesIn}
-use Rattle.framing.specs.Receiver.{fresh}
 use Rattle.sockets.specs.Framer.{Channel}
-use Rattle.sockets.specs.Calls.{Socket, S0, S1, Call, Byte, Direct, Finish, FromSocket, FromDirect}
+use Rattle.sockets.specs.Calls.{S0, S1, Call, Byte, Direct, Finish, FromSocket, FromDirect}
 use Rattle.sysex.specs.declared.Settings.{Settings}
 use Rattle.sysex.specs.Forms.{requestBody, ended}
 use Rattle.sysex.specs.Numbers.{answerNumber}

@@ -1,13 +1,13 @@
 -- Req 05: a list of moves does what its moves do as messages, sent one by one on our channel.
 use Prim.Native.Nat.{ℕ, zero, suc, _+_, _≤_, _<_}
 use mathlib.Core.Bool.{true, false}
-use mathlib.Core.List.{List, [], _∷_, _++_, map}
+use mathlib.Core.List.{List, [], _∷_}
 use mathlib.Core.Logic.{inl, inr}
 use mathlib.Core.Path.{_≡_, refl, sym, ap, _∙_, subst}
 use native.Mathlib.Omega.{arith}
 use lib.ListN.{length, getD, take, drop, length-take, length-drop, List·getD-append}
 use lib.Seq.{take-at, drop-at}
-use borrow.Author.Tests.{leb-true, le-leb, lt-leb, eq-eqb}
+use borrow.Author.Tests.{leb-true, le-leb, lt-leb}
 use Rattle.ground.specs.Lists.{written}
 use Rattle.ground.specs.Tests.{AllHold}
 use Rattle.ground.specs.Calls.{left}
@@ -17,13 +17,14 @@ use Rattle.programs.specs.Memory.{memorySize}
 use Rattle.programs.specs.Held.{Held, Edit, bytesIn}
 use Rattle.controls.specs.Applying.{Changed, applyOf}
 use Rattle.controls.proofs.Controllers.{apply-cases, length-kept}
-use Rattle.framing.specs.Receiver.{takesOne}
+use Rattle.framing.specs.declared.Receiver.{Receiver}
+use Rattle.framing.specs.Receiver.{fresh, takesOne}
 use Rattle.sockets.specs.Framer.{Framer, Idle, AwaitTwo, Nothing, hear, hears, Channel}
 use Rattle.sockets.specs.Calls.{Socket, FromSocket, feed, handing}
-use Rattle.sockets.specs.Box.{Said, said, CallsOf, FinishesOf, SaidsOf, finishedBy, heldAfter, saidsOf, saidOf}
+use Rattle.sockets.specs.Box.{Said, said, Rules, CallsOf, FinishesOf, SaidsOf, finishedBy, heldAfter, saidsOf, saidOf}
 use Rattle.sockets.specs.Promise.{socketNumber}
 use Rattle.sockets.specs.History.{WorldOf, History, saidsAlong}
-use Rattle.sockets.specs.Demand.{Fresh}
+use Rattle.sockets.specs.Demand.{framerOf, Sound, starts}
 use Rattle.sockets.proofs.Fed.{At, idle-heard, again-heard, behind, channel-stands, channel-finishes, channel-answers}
 use Rattle.sysex.specs.declared.Settings.{Settings}
 use Rattle.sysex.specs.declared.Answer.{Answer}
@@ -40,7 +41,11 @@ use Rattle.demands.specs.EditAlone.{EditAlone}
 use Rattle.demands.specs.Moves.{sentOn, OneByOne, movesBytes, AllData, byBytes, ListNumber, MoveNumber, AnsweredList}
 use Rattle.demands.proofs.Passed.{moves-passed, moves-cases}
 use Rattle.demands.proofs.EditAlone.{edit-alone}
-use Rattle.demands.proofs.Sockets.{noted-length, box-demand3}
+use Rattle.demands.proofs.Sockets.{noted-length, box-from-sound}
+
+fresh-idle : (r : Receiver) (buffer : List ℕ) → r ≡ fresh → framerOf r buffer ≡ Idle
+unfolding framerOf
+fresh-idle r buffer new = rw new refl
 
 -- one edit buffer serves both players
 any-player : (kind : Kind) (settings : Settings) (p q : ℕ) (held : Held) (status first second : ℕ)
@@ -49,21 +54,24 @@ unfolding messageDoes channelDoes
 any-player kind settings p q held status first second = refl
 
 module _ (kindNumber : ℕ) (settings : Settings) where
+  abbrev rules : Rules
+  rules = boxRules kindNumber settings
+
   -- the messages of a list, and the same sent on a socket, leave and answer the same
   module _ (s : Socket) where
     same-held : (moves : List Move) (held : Held)
-        → heldAfter (boxRules kindNumber settings) held (handing (handsOf settings (Moves moves))) ≡ heldAfter (boxRules kindNumber settings) held (sentOn kindNumber settings s moves)
+        → heldAfter rules held (handing (handsOf settings (Moves moves))) ≡ heldAfter rules held (sentOn kindNumber settings s moves)
     same-held [] held = refl
     same-held (move ∷ moves) held =
         let e = any-player (kindOf kindNumber) settings panel (socketNumber s) held (0xB0 + settings .channel) (move .controller) (move .value) in
-        (λ i. heldAfter (boxRules kindNumber settings) (e i .held) (handing (handsOf settings (Moves moves)))) ∙ same-held moves _
+        (λ i. heldAfter rules (e i .held) (handing (handsOf settings (Moves moves)))) ∙ same-held moves _
 
     same-saids : (moves : List Move) (held : Held)
-        → saidsOf (boxRules kindNumber settings) held (handing (handsOf settings (Moves moves))) ≡ saidsOf (boxRules kindNumber settings) held (sentOn kindNumber settings s moves)
+        → saidsOf rules held (handing (handsOf settings (Moves moves))) ≡ saidsOf rules held (sentOn kindNumber settings s moves)
     same-saids [] held = refl
     same-saids (move ∷ moves) held =
         let e = any-player (kindOf kindNumber) settings panel (socketNumber s) held (0xB0 + settings .channel) (move .controller) (move .value) in
-        (λ i. saidOf (e i) ∷ saidsOf (boxRules kindNumber settings) (e i .held) (handing (handsOf settings (Moves moves))))
+        (λ i. saidOf (e i) ∷ saidsOf rules (e i .held) (handing (handsOf settings (Moves moves))))
         ∙ ap (λ (l : List (Said Answer)). saidOf (e 1) ∷ l) (same-saids moves _)
 
     -- "The edit buffer afterwards and the number noted for each move are those of the moves sent one by one on our channel", on either socket.
@@ -74,7 +82,7 @@ module _ (kindNumber : ℕ) (settings : Settings) where
         ∙ (λ i. left Taken (same-held moves held i) (written (noted (same-saids moves held i)) numbers))
 
   -- the same as bytes
-  module _ (valid : isValid settings ≡ true) (s : Socket) where
+  module _ (valid : isValid settings ≡ true) (start : Socket → Framer) (s : Socket) (begins : start s ≡ Idle) where
     abbrev status : ℕ
     status = 0xB0 + settings .channel
 
@@ -82,48 +90,45 @@ module _ (kindNumber : ℕ) (settings : Settings) where
     unfolding takesOne
     two = let low = valid-channel settings valid in rw (lt-leb 0xC0 status (omega arith))
 
-    abbrev start : Socket → Framer
-    start t = Idle
-
     -- the socket is fresh, or a message of this status was its last
-    abbrev Outside : CallsOf (boxRules kindNumber settings) → Type 0
-    Outside before = hears (limit (kindOf kindNumber)) (At (boxRules kindNumber settings) start s before) status ≡ hear Nothing (AwaitTwo status)
+    abbrev Outside : CallsOf rules → Type 0
+    Outside before = hears (limit (kindOf kindNumber)) (At rules start s before) status ≡ hear Nothing (AwaitTwo status)
 
     fresh-outside : Outside []
-    fresh-outside = let low = valid-channel settings valid in idle-heard (limit (kindOf kindNumber)) status (omega arith) (omega arith) two
+    fresh-outside = let low = valid-channel settings valid in rw begins (idle-heard (limit (kindOf kindNumber)) status (omega arith) (omega arith) two)
 
-    again-outside : (before : CallsOf (boxRules kindNumber settings)) → At (boxRules kindNumber settings) start s before ≡ AwaitTwo status → Outside before
+    again-outside : (before : CallsOf rules) → At rules start s before ≡ AwaitTwo status → Outside before
     again-outside before e = let low = valid-channel settings valid in rw e (again-heard (limit (kindOf kindNumber)) status (omega arith) (omega arith) two status)
 
-    module _ (move : Move) (moves : List Move) (before : CallsOf (boxRules kindNumber settings)) (out : Outside before) (low : AllData (move ∷ moves)) where
-      abbrev rest : CallsOf (boxRules kindNumber settings)
+    module _ (move : Move) (moves : List Move) (before : CallsOf rules) (out : Outside before) (low : AllData (move ∷ moves)) where
+      abbrev rest : CallsOf rules
       rest = feed s (movesBytes settings moves)
 
-      abbrev next : CallsOf (boxRules kindNumber settings)
-      next = behind (boxRules kindNumber settings) start s before rest status (move .controller) (move .value) out (le-leb _ _ (low .0)) (le-leb _ _ (low .1))
+      abbrev next : CallsOf rules
+      next = behind rules start s before rest status (move .controller) (move .value) out (le-leb _ _ (low .0)) (le-leb _ _ (low .1))
 
       next-outside : Outside next
-      next-outside = again-outside next (channel-stands (boxRules kindNumber settings) start s before rest status (move .controller) (move .value) out (le-leb _ _ (low .0)) (le-leb _ _ (low .1)))
+      next-outside = again-outside next (channel-stands rules start s before rest status (move .controller) (move .value) out (le-leb _ _ (low .0)) (le-leb _ _ (low .1)))
 
-      next-finishes : finishedBy (boxRules kindNumber settings) start before (feed s (movesBytes settings (move ∷ moves)))
-          ≡ FromSocket s (moveMessage settings move) ∷ finishedBy (boxRules kindNumber settings) start next rest
-      next-finishes = channel-finishes (boxRules kindNumber settings) start s before rest status (move .controller) (move .value) out (le-leb _ _ (low .0)) (le-leb _ _ (low .1))
+      next-finishes : finishedBy rules start before (feed s (movesBytes settings (move ∷ moves)))
+          ≡ FromSocket s (moveMessage settings move) ∷ finishedBy rules start next rest
+      next-finishes = channel-finishes rules start s before rest status (move .controller) (move .value) out (le-leb _ _ (low .0)) (le-leb _ _ (low .1))
 
       next-answers : (held : Held) → (let o = messageDoes (kindOf kindNumber) settings (socketNumber s) held (moveMessage settings move) in
-          saidsAlong (boxRules kindNumber settings) start held before (feed s (movesBytes settings (move ∷ moves)))
-          ≡ said Taken [] ∷ said Taken [] ∷ saidOf o ∷ saidsAlong (boxRules kindNumber settings) start (o .held) next rest)
-      next-answers = channel-answers (boxRules kindNumber settings) start s before rest status (move .controller) (move .value) out (le-leb _ _ (low .0)) (le-leb _ _ (low .1))
+          saidsAlong rules start held before (feed s (movesBytes settings (move ∷ moves)))
+          ≡ said Taken [] ∷ said Taken [] ∷ saidOf o ∷ saidsAlong rules start (o .held) next rest)
+      next-answers = channel-answers rules start s before rest status (move .controller) (move .value) out (le-leb _ _ (low .0)) (le-leb _ _ (low .1))
 
-    bytes-finish : (moves : List Move) (before : CallsOf (boxRules kindNumber settings)) → Outside before → AllData moves
-        → finishedBy (boxRules kindNumber settings) start before (feed s (movesBytes settings moves)) ≡ sentOn kindNumber settings s moves
+    bytes-finish : (moves : List Move) (before : CallsOf rules) → Outside before → AllData moves
+        → finishedBy rules start before (feed s (movesBytes settings moves)) ≡ sentOn kindNumber settings s moves
     bytes-finish [] before out low = refl
     bytes-finish (move ∷ moves) before out low =
         next-finishes move moves before out low
-        ∙ ap (λ (fs : FinishesOf (boxRules kindNumber settings)). FromSocket s (moveMessage settings move) ∷ fs) (bytes-finish moves _ (next-outside move moves before out low) (low .2))
+        ∙ ap (λ (fs : FinishesOf rules). FromSocket s (moveMessage settings move) ∷ fs) (bytes-finish moves _ (next-outside move moves before out low) (low .2))
 
-    bytes-answer : (moves : List Move) (held : Held) (before : CallsOf (boxRules kindNumber settings)) → Outside before → AllData moves
-        → noted (saidsAlong (boxRules kindNumber settings) start held before (feed s (movesBytes settings moves)))
-        ≡ byBytes (noted (saidsOf (boxRules kindNumber settings) held (sentOn kindNumber settings s moves)))
+    bytes-answer : (moves : List Move) (held : Held) (before : CallsOf rules) → Outside before → AllData moves
+        → noted (saidsAlong rules start held before (feed s (movesBytes settings moves)))
+        ≡ byBytes (noted (saidsOf rules held (sentOn kindNumber settings s moves)))
     bytes-answer [] held before out low = refl
     bytes-answer (move ∷ moves) held before out low =
         let o = messageDoes (kindOf kindNumber) settings (socketNumber s) held (moveMessage settings move) in
@@ -132,25 +137,25 @@ module _ (kindNumber : ℕ) (settings : Settings) where
 
   -- what a list leaves that is not turned away, and its numbers
   abbrev listNumbers : List Move → Held → List ℕ
-  listNumbers moves held = noted (saidsOf (boxRules kindNumber settings) held (handing (handsOf settings (Moves moves))))
+  listNumbers moves held = noted (saidsOf rules held (handing (handsOf settings (Moves moves))))
 
   numbers-written : (moves : List Move) (held : Held) (numbers : List ℕ) → take (length moves) (written (listNumbers moves held) numbers) ≡ listNumbers moves held
   numbers-written moves held numbers =
       take-at (listNumbers moves held) (drop (length (listNumbers moves held)) numbers) (length moves) (noted-length kindNumber settings held moves)
 
-  -- "feeding those bytes to a fresh socket gives the same": either socket, whatever the other one heard before
-  pub list-fed : (moves : List Move) (numbers : List ℕ) (s : Socket) (w v : WorldOf (boxRules kindNumber settings)) (saids : SaidsOf (boxRules kindNumber settings)) → AllData moves
-      → AllHold (movesTests kindNumber settings moves (w .held) numbers) → Fresh (boxRules kindNumber settings) w
-      → History (boxRules kindNumber settings) w (feed s (movesBytes settings moves)) v saids
+  -- "feeding those bytes to a fresh socket gives the same": either socket, wherever the other one stands
+  pub list-fed : (moves : List Move) (numbers : List ℕ) (s : Socket) (w v : WorldOf rules) (saids : SaidsOf rules) → AllData moves
+      → AllHold (movesTests kindNumber settings moves (w .held) numbers) → Sound rules w → w .receiver s ≡ fresh → History rules w (feed s (movesBytes settings moves)) v saids
       → (let l = movesOf kindNumber settings moves (w .held) numbers in (v .held ≡ l .held) × (noted saids ≡ byBytes (take (length moves) (l .reply))))
-  list-fed moves numbers s w v saids low all new history =
+  list-fed moves numbers s w v saids low all sound new history =
       let valid = all .1 .1 .1 .1 .0 in
-      let rules = boxRules kindNumber settings in
-      let d = box-demand3 kindNumber settings w v (feed s (movesBytes settings moves)) saids new history in
-      let finished = d .order ∙ bytes-finish valid s moves [] (fresh-outside valid s) low in
+      let begins = fresh-idle (w .receiver s) (w .receive s) new in
+      let outside = fresh-outside valid (starts rules w) s begins in
+      let d = box-from-sound kindNumber settings w v (feed s (movesBytes settings moves)) saids sound history in
+      let finished = d .order ∙ bytes-finish valid (starts rules w) s begins moves [] outside low in
       rw (moves-passed kindNumber settings moves (w .held) numbers all) (
         d .held ∙ ap (heldAfter rules (w .held)) finished ∙ sym (same-held s moves (w .held)),
-        ap noted (d .each) ∙ bytes-answer valid s moves (w .held) [] (fresh-outside valid s) low
+        ap noted (d .each) ∙ bytes-answer valid (starts rules w) s begins moves (w .held) [] outside low
             ∙ ap (λ (l : List (Said Answer)). byBytes (noted l)) (sym (same-saids s moves (w .held))) ∙ ap byBytes (sym (numbers-written moves (w .held) numbers)),
       )
 
@@ -187,7 +192,7 @@ module _ (kindNumber : ℕ) (settings : Settings) (valid : isValid settings ≡ 
       (controller-alone (kindOf kindNumber) panel held m (move .controller) (move .value))
 
   list-alone : (moves : List Move) (held : Held) → memorySize (kindOf kindNumber) ≤ length (held .memory)
-      → EditAlone (kindOf kindNumber) panel held (heldAfter (boxRules kindNumber settings) held (handing (handsOf settings (Moves moves))))
+      → EditAlone (kindOf kindNumber) panel held (heldAfter (rules kindNumber settings) held (handing (handsOf settings (Moves moves))))
   list-alone [] held m = alone-same (kindOf kindNumber) panel held
   list-alone (move ∷ moves) held m =
       let one = move-alone move held m in
