@@ -7,7 +7,6 @@ mod socket;
 mod why;
 
 use framing::Receiver;
-pub use moves::MOST_MOVES;
 pub use moves::list_answer;
 pub use moves::make_move;
 pub use panel::whole_message;

@@ -13,7 +13,7 @@ use sysex::Answer;
 use sysex::Settings;
 
 // The most moves that a list has.
-pub const MOST_MOVES: usize = 256;
+const MOST_MOVES: usize = 256;
 
 // What a list of so many moves is answered, by the lengths of memory and of the buffer for its numbers.
 pub fn list_answer(
