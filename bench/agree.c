@@ -4,7 +4,7 @@
 #include "side.h"
 
 /* Lists have 0 to 257 moves, one more than is taken: so many lengths. */
-enum { KINDS = 2, NO_KINDS = 4, LISTS = COSTERBLOOM_MOST_MOVES + 2 };
+enum { KINDS = 2, NO_KINDS = 4, LENGTHS = COSTERBLOOM_MOST_MOVES + 2 };
 
 /* One past the kinds, some that are a kind if they are cut, and the highest. */
 static const uint32_t NO_KIND[NO_KINDS] = {2, 256, 65537, 0xFFFFFFFF};
@@ -254,7 +254,7 @@ static costerbloom_move any_move(uint64_t *seed)
 /* A list of so many moves. A number too few is lent now and then, whatever else is amiss. */
 static int list_same(box *a, box *b, size_t count, uint32_t kind, uint64_t *seed)
 {
-    static costerbloom_move moves[LISTS];
+    static costerbloom_move moves[LENGTHS];
     for (size_t i = 0; i < count; i++)
         moves[i] = any_move(seed);
     size_t lent = below(seed, 8) || count == 0 ? count + below(seed, 3) : count - 1;
@@ -292,7 +292,7 @@ uint32_t agree(box *library, box *plain, uint32_t calls)
             library->receiver = plain->receiver = any_receiver(&seed);
         if (!once_same(library, plain, message, length, kind, &seed))
             return count;
-        if (!list_same(library, plain, lists++ % LISTS, kind, &seed))
+        if (!list_same(library, plain, lists++ % LENGTHS, kind, &seed))
             return count;
         if (!bytes_same(library, plain, message, length, kind, &seed) || !same_box(library, plain))
             return count;

@@ -88,11 +88,11 @@ ONCE one_knob(take_call *take, box *b)
 ONCE listed_moves(moves_call *call, box *b)
 {
     uint64_t answers = 0;
-    for (size_t i = 0; i < LISTS; i++)
-        answers = 3 * answers +
-                  call(listed + i * COSTERBLOOM_MOST_MOVES, COSTERBLOOM_MOST_MOVES, COSTERBLOOM_POD, 0, 0, 0x30, 0x31,
-                      0x30, 0x30, b->memory, sizeof b->memory, b->reply, sizeof b->reply) +
-                  b->reply[i];
+    for (size_t i = 0; i < LISTS; i++) {
+        uint64_t answer = call(listed + i * COSTERBLOOM_MOST_MOVES, COSTERBLOOM_MOST_MOVES, COSTERBLOOM_POD, 0, 0, 0x30,
+            0x31, 0x30, 0x30, b->memory, sizeof b->memory, b->reply, sizeof b->reply);
+        answers = 3 * answers + answer + b->reply[i];
+    }
     return answers;
 }
 

@@ -2,6 +2,7 @@
  * says, for both kinds. No compiler holds the two against each other. Says nothing where all is well. */
 #include <costerbloom.h>
 
+#include "filled.h"
 #include "report.h"
 
 enum { TAKEN = 0, STORED = 1, REPLIED = 2, IDENTIFIED = REPLIED + (17 << 8), NOT_OURS = 11, NO_CONTROLLER = 21 };
@@ -126,20 +127,6 @@ static void expect(_Bool right, const char *call, const char *what)
     say(": ");
     say(what);
     say("\n");
-}
-
-static void fill(uint8_t *bytes, size_t length, uint8_t value)
-{
-    for (size_t place = 0; place < length; place++)
-        bytes[place] = value;
-}
-
-static _Bool is_full_of(const uint8_t *bytes, size_t length, uint8_t value)
-{
-    for (size_t place = 0; place < length; place++)
-        if (bytes[place] != value)
-            return 0;
-    return 1;
 }
 
 /* The answer to the request's last byte. */

@@ -2,6 +2,7 @@
  * nothing where they do. */
 #include <costerbloom.h>
 
+#include "filled.h"
 #include "report.h"
 
 _Static_assert(sizeof(costerbloom_receiver) == 8, "size");
@@ -81,20 +82,6 @@ static void take(uint8_t byte, uint32_t kind)
         reply, sizeof reply);
 }
 
-static void paint(void *lending, size_t length)
-{
-    for (size_t place = 0; place < length; place++)
-        ((uint8_t *)lending)[place] = UNTOUCHED;
-}
-
-static _Bool is_painted(const uint8_t *bytes, size_t length)
-{
-    for (size_t place = 0; place < length; place++)
-        if (bytes[place] != UNTOUCHED)
-            return 0;
-    return 1;
-}
-
 static _Bool differs(const char *fed, const char *what)
 {
     say("layout: after ");
@@ -112,14 +99,15 @@ static _Bool holds_another(const char *fed, const uint8_t *record)
     for (int place = 0; place < FIELD_BYTES; place++)
         if (bytes[place] != record[place])
             another = differs(fed, names[place]);
-    if (!is_painted(lent.before, sizeof lent.before) || !is_painted(lent.after, sizeof lent.after))
+    if (!is_full_of(lent.before, sizeof lent.before, UNTOUCHED) ||
+        !is_full_of(lent.after, sizeof lent.after, UNTOUCHED))
         another = differs(fed, "a byte beside it");
     return another;
 }
 
 static void move_all(void)
 {
-    paint(&listed, sizeof listed);
+    fill(&listed, sizeof listed, UNTOUCHED);
     for (size_t move = 0; move < MOVES; move++)
         listed.moves[move] = scene[move].move;
     costerbloom_moves(listed.moves, MOVES, COSTERBLOOM_POD, 0, 0, 0, 0, 0, 0, memory, sizeof memory, listed.numbers,
@@ -136,8 +124,9 @@ static _Bool reads_another(void)
         if (edit[scene[move].place] != (scene[move].number == APPLIED ? scene[move].move.value : 0))
             another = differs(scene[move].fed, "what it stores");
     }
-    if (!is_painted(listed.before, sizeof listed.before) || !is_painted(listed.between, sizeof listed.between) ||
-        !is_painted(listed.after, sizeof listed.after))
+    if (!is_full_of(listed.before, sizeof listed.before, UNTOUCHED) ||
+        !is_full_of(listed.between, sizeof listed.between, UNTOUCHED) ||
+        !is_full_of(listed.after, sizeof listed.after, UNTOUCHED))
         another = differs("a list of moves", "a byte beside it");
     return another;
 }
@@ -146,7 +135,7 @@ int main(void)
 {
     _Bool wrong = 0;
     for (size_t row = 0; row < sizeof cases / sizeof *cases; row++) {
-        paint(&lent, sizeof lent);
+        fill(&lent, sizeof lent, UNTOUCHED);
         lent.receiver = (costerbloom_receiver){0};
         take(cases[row].status, cases[row].kind);
         for (int time = 0; time < cases[row].times; time++)

@@ -9,6 +9,7 @@
  *   memory: 36 programs, then the edit buffer     2,664      2,960    2,960
  *   a receive buffer for each socket              5,193      5,769    5,769
  *   a reply buffer                                5,193      5,769    5,769
+ *   a number buffer for a list of moves           a byte for each move
  *
  * A program has 72 bytes on a POD and 80 on a Bass POD, and so has the edit buffer. Fresh memory is all zero. More may
  * be lent; the rest is not touched. What a call is lent must not overlap, no other call may use it meanwhile, and no
@@ -76,8 +77,8 @@ enum { COSTERBLOOM_MOST_MOVES = 256 };
  *   12  opcode or type unknown or missing         32  a kind that is none (tested before 30); receiver
  *   13  wrong length                                  not sound, or a setting out of range (tested
  *   14  program above 0x23                            after 31)
- *   15  version not 0                             33  more than 256 moves (of costerbloom_moves alone)
- *   16  a data byte above 0x0F                    34  a number buffer shorter than the list (the same)
+ *   15  version not 0
+ *   16  a data byte above 0x0F
  *
  * 10, 13 and 30 go by the kind's own lengths, and so does 32: a sound receiver has at most 5,192 bytes stored on a POD,
  * 5,768 on a Bass POD. After 2, send the first `reply length` bytes of the reply buffer; after any other number the
@@ -115,7 +116,7 @@ uint64_t costerbloom_whole(const uint8_t *message, size_t message_length, uint32
  *   32  a setting out of range
  *
  * Bits 8 and up are 0. The moves are on the box's own channel, so 20 cannot come; the other settings are only tested.
- * An empty list is taken, with an empty number buffer too; neither pointer is null then. */
+ * An empty list is taken, with an empty number buffer too. */
 uint64_t costerbloom_moves(const costerbloom_move *moves, size_t count, uint32_t kind,
     uint8_t channel, uint8_t omni, uint8_t revision0, uint8_t revision1, uint8_t revision2, uint8_t revision3,
     uint8_t *memory, size_t memory_length, uint8_t *numbers, size_t numbers_length);

@@ -118,8 +118,8 @@ def texts(source):
          ' between the two'),
         (r'r ≡ allowedOf (.*?) count memory numbers ⌝',
          'r ≡ allowedOf .. count memory numbers ⌝'),
-        (r'≡ makeOf (.*?) place one \(desk',
-         '≡ makeOf .. place one (desk ..)'),
+        (r'≡ makeOf (.*?) place one \(buffers',
+         '≡ makeOf .. place one (buffers ..)'),
     ) for found in find(pattern, source, text)]
 
 
@@ -166,9 +166,9 @@ def needed(behind, some, judged, making):
         ' numbers ⌝ }',
         f'fn make(one: Move, place: usize, {some}, {BUFFERS})'
         ' requires { ⌜ place < length (now numbers) ⌝ }'
-        ' ensures { λ _. ⌜ desk (now (memory .exit)) (now (numbers .exit))'
+        ' ensures { λ _. ⌜ buffers (now (memory .exit)) (now (numbers .exit))'
         f' ≡ makeOf {making} place one'
-        ' (desk (now (memory .entry)) (now (numbers .entry))) ⌝ }')
+        ' (buffers (now (memory .entry)) (now (numbers .entry))) ⌝ }')
 
 
 def begun(shape):
@@ -282,7 +282,7 @@ def made(walk, shape):
     walk.call('Make', f'(to-make {LENT})', [
         'the move', 'the index', *(one.name for one in shape.made),
         *(buffer.one.lent() for buffer in shape.buffers)], f'MadeBack {LENT}')
-    walk.hear('the promise', f'desk {" ".join(shape.lasts())} ≡ makeOf'
+    walk.hear('the promise', f'buffers {" ".join(shape.lasts())} ≡ makeOf'
               f' {shape.making} (t .i) {ONE} (t .d)', to='as-made')
     walk.land('what is made', NOTHING)
 

@@ -4,8 +4,8 @@ python3 walk/walk.py costerbloom_take <crates/costerbloom/src/lib.rt
 python3 walk/walk.py costerbloom_moves <crates/costerbloom/src/moves.rt
 
 The borrow checker covers no reference to a struct, and no slice of structs.
-The steps depend on the list of parameters alone: for another list another
-proof is written. The .in files have all that is the same for every list.
+The steps depend on the list of parameters, and on what the contracts hand on
+of it: for another list another proof is written. The .in files have all that is the same for every list.
 """
 
 import re

@@ -1,6 +1,6 @@
 -- The scenes of Req 05 are given, and the messages of lists stand in their order.
-use mathlib.Core.List.{[], _∷_}
-use mathlib.Core.Path.{_≡_, refl, ap, _∙_}
+use mathlib.Core.List.{[]}
+use mathlib.Core.Path.{_≡_, refl, sym, ap, _∙_, subst}
 use Rattle.kinds.specs.declared.Kind.the-variants.{Pod}
 use Rattle.kinds.specs.Kinds.{isKind, kindOf, numberOf, sizeOf, deviceOf, takesProgramChange}
 use Rattle.controls.specs.Formulas.{numberBy, numberFor, nextFor}
@@ -20,11 +20,10 @@ use Rattle.sysex.specs.Carrying.{orderDoes}
 use Rattle.podbox.specs.Settings.{isValid, freshSettings, freshHeld}
 use Rattle.podbox.specs.Messages.{isHeard, isController, isProgramChange, channelDoes, messageDoes}
 use Rattle.podbox.specs.Whole.{isFramed, messageOrder}
-use Rattle.podbox.specs.Box.{noted}
 use Rattle.demands.proofs.Sockets.{box-demand3}
 use Rattle.cases.specs.Case.{AllGiven}
 use Rattle.cases.specs.ShutOut.{pod, freshRules}
-use Rattle.cases.specs.Scenes.{editAt, scenes, between, numbers, inTurn}
+use Rattle.cases.specs.Scenes.{scenes, between, inTurn, numbers, SaidInTurn, HeldThen}
 
 pub as-the-desk-sends : AllGiven scenes
 unfolding scenes isKind kindOf numberOf sizeOf applyOf storeRow numberBy numberFor nextFor rowOf rows effectOf selections selected freshSettings freshHeld isValid isHeard isController isProgramChange takesProgramChange channelDoes messageDoes directOf
@@ -32,18 +31,18 @@ as-the-desk-sends = refl
 
 -- what antt computes of the run, by demand 3's own words
 computed : (finishedBy freshRules (λ s. Idle) [] between ≡ inTurn)
-    × (noted (saidsAlong freshRules (λ s. Idle) (freshHeld Pod) [] between) ≡ numbers) × (editAt Pod (heldAfter freshRules (freshHeld Pod) inTurn) (8 ∷ []) ≡ 11 ∷ [])
+    × SaidInTurn (saidsAlong freshRules (λ s. Idle) (freshHeld Pod) [] between) × HeldThen (heldAfter freshRules (freshHeld Pod) inTurn)
 unfolding inTurn numbers kindOf numberOf sizeOf deviceOf applyOf storeRow numberBy numberFor nextFor rowOf rows effectOf selections selected freshSettings freshHeld hears finishes takesOne bodyLength isIdentity hasForm hasProgram furtherTests bodyOrder orderOf orderDoes isHeard isController isProgramChange takesProgramChange channelDoes messageDoes isFramed messageOrder
-computed = (refl, refl, refl)
+computed = (refl, (refl, refl, refl), refl)
 
--- Two sockets, lists and a panel message between bytes: every history of these calls finishes these messages in this order, answers with these numbers and
--- leaves 11, the last one's, in byte 8.
+-- Two sockets, lists and a panel message between bytes: every history of these calls finishes these messages in this order, answers so
+-- and leaves this.
 pub as-they-come : (w v : WorldOf freshRules) (saids : SaidsOf freshRules) → Fresh freshRules w → w .held ≡ freshHeld Pod → (history : History freshRules w between v saids)
-    → (finishedAlong freshRules history ≡ inTurn) × (noted saids ≡ numbers) × (editAt Pod (v .held) (8 ∷ []) ≡ 11 ∷ [])
+    → (finishedAlong freshRules history ≡ inTurn) × SaidInTurn saids × HeldThen (v .held)
 as-they-come w v saids new e history =
     let d = box-demand3 pod freshSettings w v between saids new history in
     let finished = d .order ∙ computed .0 in (
       finished,
-      ap noted (d .each) ∙ ap (λ (held : Held). noted (saidsAlong freshRules (λ s. Idle) held [] between)) e ∙ computed .1,
-      ap (λ (held : Held). editAt Pod held (8 ∷ [])) (d .held ∙ (λ i. heldAfter freshRules (e i) (finished i))) ∙ computed .2,
+      subst SaidInTurn (sym (d .each ∙ ap (λ (held : Held). saidsAlong freshRules (λ s. Idle) held [] between) e)) (computed .1),
+      subst HeldThen (sym (d .held ∙ (λ i. heldAfter freshRules (e i) (finished i)))) (computed .2),
     )

@@ -39,7 +39,7 @@ module _ (R : RattleType) (x : RefT (List (R .Denot))) where
 
   -- what its holder keeps while it is lent for the lifetime ν under the name δ: what it says of its machine values, what comes back at the end of ν, and its own
   -- borrow, open
-  abbrev pub LentAgain : Lft → Share → List Val → ℕ → GName → Fml
+  abbrev LentAgain : Lft → Share → List Val → ℕ → GName → Fml
   LentAgain κ q vs ν δ =
       fsep (at-slice R x vs) (fsep (flent (ν ∷ []) (Held R (length (x .now)) b o δ)) (fsep (fobor κ q (Held R (length (x .now)) b o (x .name)))
       (fsep (fobs (x .name) (codedHoleys R .code (heres R (x .now)))) (fauth (x .name) (codedHoleys R .code (heres R (x .now)))))))

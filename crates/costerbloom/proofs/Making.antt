@@ -31,7 +31,7 @@ use Rattle.podbox.specs.Moves.{moveMessage}
 use Rattle.podbox.specs.Box.{listTests, panel, Moves, handsOf, noted, plainAnswer, boxRules, listAnswer, moveDoes}
 use Rattle.podbox.proofs.OwnChannel.{on-channel, controller-length}
 use Rattle.costerbloom.specs.Numbers.{packed, leftNumbers, movesNumbers}
-use Rattle.costerbloom.specs.Private.{allowedOf, Desk, desk, makeOf, makeAll}
+use Rattle.costerbloom.specs.Private.{allowedOf, Buffers, buffers, makeOf, makeAll}
 
 module _ (kindNumber : ℕ) (settings : Settings) where
   -- how many moves an answer to a list of `count` allows
@@ -60,31 +60,31 @@ module _ (kindNumber : ℕ) (settings : Settings) where
   module _ (valid : isValid settings ≡ true) where
     sent-length : (move : Move) (memory : List ℕ) → memorySize (kindOf kindNumber) ≤ length memory → length (sent move memory .held .memory) ≡ length memory
     sent-length move memory m =
-        rw (on-channel (kindOf kindNumber) settings panel (heldOf memory) move valid)
-        (controller-length (kindOf kindNumber) settings panel (heldOf memory) (move .controller) (move .value) m)
+        rw (on-channel (kindOf kindNumber) panel (heldOf memory) settings move valid)
+        (controller-length (kindOf kindNumber) panel (heldOf memory) (move .controller) (move .value) m)
 
     move-sent : (move : Move) (memory : List ℕ) → memorySize (kindOf kindNumber) ≤ length memory → moveDoes (kindOf kindNumber) panel move (heldOf memory) ≡ sent move memory
     unfolding moveDoes
     move-sent move memory m =
-        rw (le-leb (memorySize (kindOf kindNumber)) (length memory) m) (sym (on-channel (kindOf kindNumber) settings panel (heldOf memory) move valid))
+        rw (le-leb (memorySize (kindOf kindNumber)) (length memory) m) (sym (on-channel (kindOf kindNumber) panel (heldOf memory) settings move valid))
 
     -- the next move, where the numbers of the moves before it stand in front
     make-next : (move : Move) (memory before rest : List ℕ) (old : ℕ) → memorySize (kindOf kindNumber) ≤ length memory
-        → makeOf kindNumber (length before) move (desk memory (before ++ old ∷ rest))
-        ≡ desk (sent move memory .held .memory) ((before ++ (answerNumber (sent move memory .answer) ∷ [])) ++ rest)
+        → makeOf kindNumber (length before) move (buffers memory (before ++ old ∷ rest))
+        ≡ buffers (sent move memory .held .memory) ((before ++ (answerNumber (sent move memory .answer) ∷ [])) ++ rest)
     unfolding makeOf
     make-next move memory before rest old m =
         let number = answerNumber (sent move memory .answer) in
-        ap (λ (o : Outcome). desk (o .held .memory) (set (before ++ old ∷ rest) (length before) (answerNumber (o .answer)))) (move-sent move memory m)
-        ∙ ap (desk (sent move memory .held .memory)) (set-append-seam before old rest number ∙ sym (append-assoc before (number ∷ []) rest))
+        ap (λ (o : Outcome). buffers (o .held .memory) (set (before ++ old ∷ rest) (length before) (answerNumber (o .answer)))) (move-sent move memory m)
+        ∙ ap (buffers (sent move memory .held .memory)) (set-append-seam before old rest number ∙ sym (append-assoc before (number ∷ []) rest))
 
     abbrev finished : List Move → FinishesOf (boxRules kindNumber settings)
     finished moves = handing (handsOf settings (Moves moves))
 
     -- the moves behind those whose numbers stand in front: they leave what their messages leave, carried out one by one
     make-rest : (moves : List Move) (memory before rest : List ℕ) → memorySize (kindOf kindNumber) ≤ length memory → length moves ≤ length rest
-        → makeAll kindNumber (length before) moves (desk memory (before ++ rest))
-        ≡ desk (heldAfter (boxRules kindNumber settings) (heldOf memory) (finished moves) .memory)
+        → makeAll kindNumber (length before) moves (buffers memory (before ++ rest))
+        ≡ buffers (heldAfter (boxRules kindNumber settings) (heldOf memory) (finished moves) .memory)
         (before ++ written (noted (saidsOf (boxRules kindNumber settings) (heldOf memory) (finished moves))) rest)
     make-rest [] memory before rest m fits = refl
     make-rest (move ∷ moves) memory before [] m fits = absurd (omega arith)
@@ -95,7 +95,7 @@ module _ (kindNumber : ℕ) (settings : Settings) where
         let one : length before + 1 ≡ length (before ++ (number ∷ [])) = sym (length-append before (number ∷ [])) in
         (λ i. makeAll kindNumber (one i) moves (make-next move memory before rest old m i))
         ∙ make-rest moves after (before ++ (number ∷ [])) rest (omega arith) (omega arith)
-        ∙ ap (desk (heldAfter (boxRules kindNumber settings) (heldOf after) (finished moves) .memory))
+        ∙ ap (buffers (heldAfter (boxRules kindNumber settings) (heldOf after) (finished moves) .memory))
         (append-assoc before (number ∷ []) (written (noted (saidsOf (boxRules kindNumber settings) (heldOf after) (finished moves))) rest))
 
   module _ (moves : List Move) (memory numbers : List ℕ) where
@@ -111,7 +111,7 @@ module _ (kindNumber : ℕ) (settings : Settings) where
 
     -- what so many moves leave, under an answer
     abbrev leftBy : ℕ → ℕ → Left Held ℕ
-    leftBy answer count = let d = makeAll kindNumber 0 (take count moves) (desk memory numbers) in left answer (heldOf (d .memory)) (d .numbers)
+    leftBy answer count = let d = makeAll kindNumber 0 (take count moves) (buffers memory numbers) in left answer (heldOf (d .memory)) (d .numbers)
 
     abbrev Promised : Type 0
     Promised =
@@ -122,7 +122,7 @@ module _ (kindNumber : ℕ) (settings : Settings) where
     unfolding allowedOf listAnswer movesNumbers directOf packed
     all-hold all =
         rw (tested-passed ts refused Taken all, tested-passed ts turned done all, take-length moves)
-        (ap (λ (d : Desk). left 0 (heldOf (d .memory)) (d .numbers))
+        (ap (λ (d : Buffers). left 0 (heldOf (d .memory)) (d .numbers))
         (make-rest (all .1 .1 .1 .1 .0) moves memory [] numbers (leb-true _ _ (all .1 .1 .1 .0)) (leb-true _ _ (all .1 .0))))
 
     one-fails : (number : ℕ) → FirstToFail ts number → Promised

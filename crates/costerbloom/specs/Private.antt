@@ -20,20 +20,20 @@ allowedOf kindNumber settings count memory numbers =
     record { count = cond (eqb answer 0) count 0; answer = answer }
 
 -- what a list changes
-pub record Desk : Type 0 where
+pub record Buffers : Type 0 where
   pub memory : List ℕ
   pub numbers : List ℕ
 
-abbrev pub desk : List ℕ → List ℕ → Desk
-desk memory numbers = record { memory = memory; numbers = numbers }
+abbrev pub buffers : List ℕ → List ℕ → Buffers
+buffers memory numbers = record { memory = memory; numbers = numbers }
 
 -- the move at a place of the list, and its number
-unfoldable pub makeOf : ℕ → ℕ → Move → Desk → Desk
+unfoldable pub makeOf : ℕ → ℕ → Move → Buffers → Buffers
 makeOf kindNumber place one d =
     let done = moveDoes (kindOf kindNumber) panel one (heldOf (d .memory)) in
-    desk (done .held .memory) (set (d .numbers) place (answerNumber (done .answer)))
+    buffers (done .held .memory) (set (d .numbers) place (answerNumber (done .answer)))
 
 -- moves from a place of the list on
-abbrev pub makeAll : ℕ → ℕ → List Move → Desk → Desk
+abbrev pub makeAll : ℕ → ℕ → List Move → Buffers → Buffers
 makeAll kindNumber place [] d = d
 makeAll kindNumber place (one ∷ moves) d = makeAll kindNumber (place + 1) moves (makeOf kindNumber place one d)

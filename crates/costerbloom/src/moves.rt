@@ -5,7 +5,7 @@ ghost use lib.ListN.{length};
 ghost use Rattle.ground.specs.Calls.{left};
 ghost use Rattle.programs.specs.Held.{heldOf};
 ghost use Rattle.costerbloom.specs.Numbers.{settingsOf, movesNumbers};
-ghost use Rattle.costerbloom.specs.Private.{allowedOf, desk, makeOf};
+ghost use Rattle.costerbloom.specs.Private.{allowedOf, buffers, makeOf};
 use crate::numbers;
 use podbox::Move;
 
@@ -79,7 +79,7 @@ fn allow(
 // One move, and its number noted at its place of the list.
 fn make(one: Move, place: usize, kind: u32, memory: &mut [u8], numbers: &mut [u8])
     requires { ⌜ place < length (now numbers) ⌝ }
-    ensures { λ _. ⌜ desk (now (memory .exit)) (now (numbers .exit)) ≡ makeOf kind place one (desk (now (memory .entry)) (now (numbers .entry))) ⌝ }
+    ensures { λ _. ⌜ buffers (now (memory .exit)) (now (numbers .exit)) ≡ makeOf kind place one (buffers (now (memory .entry)) (now (numbers .entry))) ⌝ }
 {
     let done = podbox::make_move(one, podbox::PANEL, kinds::kind_of(kind), memory);
     numbers[place] = sysex::answer_number(done);

@@ -5,7 +5,7 @@ use mathlib.Core.List.{List, []}
 use mathlib.Core.Logic.{⊎-elim}
 use mathlib.Core.Path.{_≡_, refl, ap, _∙_}
 use native.Mathlib.Omega.{arith}
-use lib.ListN.{length, getD, drop, length-take, length-drop}
+use lib.ListN.{length, getD, drop}
 use lib.Seq.{getD-take, getD-drop}
 use borrow.Author.Tests.{le-leb, lt-ltb, lt-leb, ne-eqb, eqb-true}
 use Rattle.ground.specs.Calls.{outcome}
@@ -13,7 +13,7 @@ use Rattle.kinds.specs.declared.Kind.the-variants.{Pod}
 use Rattle.kinds.specs.Kinds.{isKind, kindOf, numberOf, sizeOf}
 use Rattle.programs.specs.Memory.{memorySize, editPlace}
 use Rattle.programs.specs.Held.{Held, heldOf, Edit, bytesIn}
-use Rattle.programs.proofs.Parts.{put-same}
+use Rattle.programs.proofs.Parts.{put-same, edit-length}
 use Rattle.controls.specs.Meaning.{Flanger, RotaryMove}
 use Rattle.controls.proofs.Rows.{has-46}
 use Rattle.controls.proofs.Controllers.{rotary-under-flanger}
@@ -45,7 +45,7 @@ module _ (settings : Settings) (status : ℕ) (heard : isHeard settings status �
   rotary-refused =
       let place = editPlace Pod player in
       let edit = bytesIn Pod player Edit held in
-      let long : length edit ≡ sizeOf Pod = simp (length-take, length-drop) (omega arith) in
+      let long = edit-length Pod player held m in
       let at : getD edit 46 0 ≡ selector player held = getD-take (sizeOf Pod) (drop place (held .memory)) 46 0 (has-46 Pod) ∙ getD-drop place (held .memory) 46 0 in
       rw (heard, is-controller, rotary-under-flanger controller value edit rotary h (omega arith) (rw at f))
       (ap (λ (memory : List ℕ). outcome (refused 19) (heldOf memory) []) (put-same place (sizeOf Pod) (held .memory)))

@@ -13,7 +13,7 @@ use Rattle.kinds.specs.Kinds.{sizeOf}
 use Rattle.kinds.proofs.AnyKind.{size-bounds}
 use Rattle.programs.specs.Memory.{programCount, memorySize, putPart}
 use Rattle.programs.specs.Held.{Held, heldOf, One, Edit, placeFor, countFor, bytesIn}
-use Rattle.programs.proofs.Parts.{put-length, put-same}
+use Rattle.programs.proofs.Parts.{put-length, put-same, edit-length}
 use Rattle.controls.specs.Table.{rowOf}
 use Rattle.controls.specs.Applying.{Changed, storeRow}
 use Rattle.controls.proofs.Controllers.{apply-cases, store-length}
@@ -59,7 +59,7 @@ module _ (kind : Kind) (settings : Settings) (player : ℕ) (held : Held) (m : m
   controller-tame controller value =
       let place = placeFor kind player Edit in
       let edit = bytesIn kind player Edit held in
-      let whole : length edit ≡ sizeOf kind = simp (length-take, length-drop) (omega arith) in
+      let whole = edit-length kind player held m in
       let kept = put-same place (sizeOf kind) (held .memory) in
       apply-cases kind controller value edit (λ (l : Changed). Tame kind held (outcome (changeAnswer (l .answer)) (heldOf (putPart place (sizeOf kind) (l .edit) (held .memory))) []))
       (λ short. absurd (omega arith))

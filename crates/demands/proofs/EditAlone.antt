@@ -4,7 +4,7 @@ use mathlib.Core.List.{List, []}
 use mathlib.Core.Logic.{⊎-elim}
 use mathlib.Core.Path.{_≡_, refl, _∙_}
 use native.Mathlib.Omega.{arith}
-use lib.ListN.{length, length-take, length-drop}
+use lib.ListN.{length}
 use Rattle.ground.specs.Calls.{outcome}
 use Rattle.ground.proofs.Tests.{by}
 use Rattle.ground.proofs.InOrder.{tested-cases}
@@ -12,7 +12,7 @@ use Rattle.kinds.specs.declared.Kind.{Kind}
 use Rattle.kinds.specs.Kinds.{sizeOf}
 use Rattle.programs.specs.Memory.{memorySize, programPlace, editPlace}
 use Rattle.programs.specs.Held.{Held, Edit, bytesIn, storeIn}
-use Rattle.programs.proofs.Parts.{part-put, part-before, put-before, put-behind, put-length}
+use Rattle.programs.proofs.Parts.{part-put, part-before, put-before, put-behind, put-length, edit-length}
 use Rattle.controls.specs.Table.{rowOf}
 use Rattle.controls.specs.Applying.{Changed, storeRow}
 use Rattle.controls.proofs.Controllers.{apply-cases, store-length}
@@ -23,6 +23,16 @@ use Rattle.sysex.specs.Carrying.{Outcome, refusing}
 use Rattle.sysex.proofs.Parts.{program-inside}
 use Rattle.podbox.specs.Messages.{isController, channelTests, changeAnswer, controllerDoes, channelDoes, messageDoes}
 use Rattle.demands.specs.EditAlone.{EditAlone, Moved}
+
+pub alone-same : (kind : Kind) (player : ℕ) (held : Held) → EditAlone kind player held held
+alone-same kind player held = record { programs-stay = λ _ _. refl; else-stays = λ _ _. refl; length-stays = refl }
+
+pub alone-more : (kind : Kind) (player : ℕ) (a b c : Held) → EditAlone kind player a b → EditAlone kind player b c → EditAlone kind player a c
+alone-more kind player a b c e f = record {
+  programs-stay = λ p h. f .programs-stay p h ∙ e .programs-stay p h;
+  else-stays = λ k h. f .else-stays k h ∙ e .else-stays k h;
+  length-stays = f .length-stays ∙ e .length-stays;
+}
 
 module _ (kind : Kind) (player : ℕ) (held : Held) (m : memorySize kind ≤ length (held .memory)) where
   module _ (bytes : List ℕ) (e : length bytes ≡ sizeOf kind) where
@@ -46,7 +56,7 @@ module _ (kind : Kind) (player : ℕ) (held : Held) (m : memorySize kind ≤ len
   controller-moves controller value =
       let edit = bytesIn kind player Edit held in
       let r = rowOf kind controller in
-      let whole : length edit ≡ sizeOf kind = simp (length-take, length-drop) (omega arith) in
+      let whole = edit-length kind player held m in
       let same : length (storeRow r value edit) ≡ sizeOf kind = store-length r value edit ∙ whole in
       let Does : Changed → Outcome = λ l. outcome (changeAnswer (l .answer)) (storeIn kind player Edit (l .edit) held) [] in
       apply-cases kind controller value edit (λ (l : Changed). Does l .answer ≡ Applied → Moved kind player controller value held (Does l))

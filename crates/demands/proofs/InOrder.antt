@@ -6,7 +6,7 @@ use mathlib.Core.List.{List, [], _∷_, map}
 use mathlib.Core.Logic.{⊎-elim, _↔_}
 use mathlib.Core.Path.{_≡_, refl, sym, ap, _∙_}
 use native.Mathlib.Omega.{arith}
-use lib.ListN.{length, length-take, length-drop}
+use lib.ListN.{length}
 use borrow.Author.Tests.{le-leb, leb-true, lt-leb, eq-eqb}
 use Rattle.ground.specs.Tests.{Test, test, tested, FirstToFail, renamed}
 use Rattle.ground.specs.Calls.{left, leaves}
@@ -16,6 +16,7 @@ use Rattle.kinds.specs.declared.Kind.{Kind}
 use Rattle.kinds.specs.Kinds.{kindOf, sizeOf}
 use Rattle.programs.specs.Memory.{memorySize}
 use Rattle.programs.specs.Held.{Held, Edit, bytesIn}
+use Rattle.programs.proofs.Parts.{edit-length}
 use Rattle.controls.specs.Table.{rowOf}
 use Rattle.controls.specs.Refusals.{moveTests}
 use Rattle.controls.specs.Applying.{Changed, changed, applyTests, unchanged, storeRow}
@@ -102,10 +103,10 @@ module _ (kind : Kind) (settings : Settings) (player : ℕ) (held : Held) where
     move-tested : (controller value : ℕ) → controllerDoes kind player controller value held .answer ≡ tested (moves controller value) refused answer.Applied
     move-tested controller value =
         let edit = bytesIn kind player Edit held in
-        let whole : sizeOf kind ≤ length edit = simp (length-take, length-drop) (omega arith) in
+        let whole = edit-length kind player held m in
         let same = ap (λ (l : Changed). changeAnswer (l .answer)) (applied-tested kind controller value edit)
         ∙ tested-map (λ (l : Changed). changeAnswer (l .answer)) (applyTests kind (rowOf kind controller) value edit) (unchanged edit) (changed change.Applied (storeRow (rowOf kind controller) value edit)) in
-        same ∙ (rw (le-leb (sizeOf kind) (length edit) whole))
+        same ∙ (rw (le-leb (sizeOf kind) (length edit) (omega arith)))
 
     message-tested : (message : Message) → messageDoes kind settings player held message .answer ≡ tested (finishTests kind settings player held (Finished message)) refused (passed (Finished message))
     unfolding messageDoes channelDoes judgeOf
@@ -177,7 +178,7 @@ module _ (kind : Kind) (settings : Settings) (valid : isValid settings ≡ true)
   moveAnswer = messageDoes kind settings player held (moveMessage settings move) .answer
 
   sent-tested : moveAnswer ≡ tested (moveTests (rowOf kind (move .controller)) (move .value) (bytesIn kind player Edit held)) refused answer.Applied
-  sent-tested = ap (λ (o : Outcome). o .answer) (on-channel kind settings player held move valid) ∙ move-tested kind settings player held m (move .controller) (move .value)
+  sent-tested = ap (λ (o : Outcome). o .answer) (on-channel kind player held settings move valid) ∙ move-tested kind settings player held m (move .controller) (move .value)
 
   pub move-order : (number : ℕ) → (moveAnswer ≡ refused number) ↔ FirstToFail (moveTests (rowOf kind (move .controller)) (move .value) (bytesIn kind player Edit held)) number
   move-order number =

@@ -2,19 +2,20 @@
 use Prim.Native.Nat.{ℕ, zero, suc, _+_, _≤_, _<_}
 use mathlib.Core.Bool.{true, false}
 use mathlib.Core.List.{List, [], _∷_}
-use mathlib.Core.Logic.{inl, inr}
+use mathlib.Core.Logic.{_⊎_, inl, inr}
 use mathlib.Core.Path.{_≡_, refl, sym, ap, _∙_, subst}
 use native.Mathlib.Omega.{arith}
-use lib.ListN.{length, getD, take, drop, length-take, length-drop, List·getD-append}
+use lib.ListN.{length, getD, take, drop, List·getD-append}
 use lib.Seq.{take-at, drop-at}
 use borrow.Author.Tests.{leb-true, le-leb, lt-leb}
 use Rattle.ground.specs.Lists.{written}
 use Rattle.ground.specs.Tests.{AllHold}
 use Rattle.ground.specs.Calls.{left}
 use Rattle.kinds.specs.declared.Kind.{Kind}
-use Rattle.kinds.specs.Kinds.{kindOf, sizeOf}
+use Rattle.kinds.specs.Kinds.{kindOf}
 use Rattle.programs.specs.Memory.{memorySize}
 use Rattle.programs.specs.Held.{Held, Edit, bytesIn}
+use Rattle.programs.proofs.Parts.{edit-length}
 use Rattle.controls.specs.Applying.{Changed, applyOf}
 use Rattle.controls.proofs.Controllers.{apply-cases, length-kept}
 use Rattle.framing.specs.declared.Receiver.{Receiver}
@@ -38,10 +39,11 @@ use Rattle.podbox.specs.Moves.{moveMessage}
 use Rattle.podbox.specs.Box.{limit, panel, Moves, handsOf, movesTests, noted, boxRules, movesOf}
 use Rattle.podbox.proofs.OwnChannel.{valid-channel, on-channel}
 use Rattle.demands.specs.EditAlone.{EditAlone}
-use Rattle.demands.specs.Moves.{sentOn, OneByOne, movesBytes, AllData, byBytes, ListNumber, MoveNumber, AnsweredList}
+use Rattle.demands.specs.Moves.{sentOn, OneByOne, movesBytes, AllData, byBytes, ListNumber, Noted, AnsweredList}
 use Rattle.demands.proofs.Passed.{moves-passed, moves-cases}
-use Rattle.demands.proofs.EditAlone.{edit-alone}
-use Rattle.demands.proofs.Sockets.{noted-length, box-from-sound}
+use Rattle.demands.proofs.InOrder.{high-controller, high-value}
+use Rattle.demands.proofs.EditAlone.{alone-same, alone-more, edit-alone}
+use Rattle.demands.proofs.Sockets.{listSaids, noted-length, box-from-sound}
 
 fresh-idle : (r : Receiver) (buffer : List ℕ) → r ≡ fresh → framerOf r buffer ≡ Idle
 unfolding framerOf
@@ -82,7 +84,7 @@ module _ (kindNumber : ℕ) (settings : Settings) where
         ∙ (λ i. left Taken (same-held moves held i) (written (noted (same-saids moves held i)) numbers))
 
   -- the same as bytes
-  module _ (valid : isValid settings ≡ true) (start : Socket → Framer) (s : Socket) (begins : start s ≡ Idle) where
+  module _ (valid : isValid settings ≡ true) (start : Socket → Framer) (s : Socket) where
     abbrev status : ℕ
     status = 0xB0 + settings .channel
 
@@ -94,8 +96,8 @@ module _ (kindNumber : ℕ) (settings : Settings) where
     abbrev Outside : CallsOf rules → Type 0
     Outside before = hears (limit (kindOf kindNumber)) (At rules start s before) status ≡ hear Nothing (AwaitTwo status)
 
-    fresh-outside : Outside []
-    fresh-outside = let low = valid-channel settings valid in rw begins (idle-heard (limit (kindOf kindNumber)) status (omega arith) (omega arith) two)
+    fresh-outside : start s ≡ Idle → Outside []
+    fresh-outside begins = let low = valid-channel settings valid in rw begins (idle-heard (limit (kindOf kindNumber)) status (omega arith) (omega arith) two)
 
     again-outside : (before : CallsOf rules) → At rules start s before ≡ AwaitTwo status → Outside before
     again-outside before e = let low = valid-channel settings valid in rw e (again-heard (limit (kindOf kindNumber)) status (omega arith) (omega arith) two status)
@@ -105,19 +107,17 @@ module _ (kindNumber : ℕ) (settings : Settings) where
       rest = feed s (movesBytes settings moves)
 
       abbrev next : CallsOf rules
-      next = behind rules start s before rest status (move .controller) (move .value) out (le-leb _ _ (low .0)) (le-leb _ _ (low .1))
+      next = behind rules start s before status (move .controller) (move .value)
 
       next-outside : Outside next
-      next-outside = again-outside next (channel-stands rules start s before rest status (move .controller) (move .value) out (le-leb _ _ (low .0)) (le-leb _ _ (low .1)))
+      next-outside = again-outside next (channel-stands rules start s before status (move .controller) (move .value) out (le-leb _ _ (low .0)) (le-leb _ _ (low .1)))
 
-      next-finishes : finishedBy rules start before (feed s (movesBytes settings (move ∷ moves)))
-          ≡ FromSocket s (moveMessage settings move) ∷ finishedBy rules start next rest
-      next-finishes = channel-finishes rules start s before rest status (move .controller) (move .value) out (le-leb _ _ (low .0)) (le-leb _ _ (low .1))
+      next-finishes : finishedBy rules start before (feed s (movesBytes settings (move ∷ moves))) ≡ FromSocket s (moveMessage settings move) ∷ finishedBy rules start next rest
+      next-finishes = channel-finishes rules start s before status (move .controller) (move .value) out (le-leb _ _ (low .0)) (le-leb _ _ (low .1)) rest
 
       next-answers : (held : Held) → (let o = messageDoes (kindOf kindNumber) settings (socketNumber s) held (moveMessage settings move) in
-          saidsAlong rules start held before (feed s (movesBytes settings (move ∷ moves)))
-          ≡ said Taken [] ∷ said Taken [] ∷ saidOf o ∷ saidsAlong rules start (o .held) next rest)
-      next-answers = channel-answers rules start s before rest status (move .controller) (move .value) out (le-leb _ _ (low .0)) (le-leb _ _ (low .1))
+          saidsAlong rules start held before (feed s (movesBytes settings (move ∷ moves))) ≡ said Taken [] ∷ said Taken [] ∷ saidOf o ∷ saidsAlong rules start (o .held) next rest)
+      next-answers = channel-answers rules start s before status (move .controller) (move .value) out (le-leb _ _ (low .0)) (le-leb _ _ (low .1)) rest
 
     bytes-finish : (moves : List Move) (before : CallsOf rules) → Outside before → AllData moves
         → finishedBy rules start before (feed s (movesBytes settings moves)) ≡ sentOn kindNumber settings s moves
@@ -135,27 +135,26 @@ module _ (kindNumber : ℕ) (settings : Settings) where
         ap noted (next-answers move moves before out low held)
         ∙ ap (λ (l : List ℕ). 0 ∷ 0 ∷ answerNumber (o .answer) ∷ l) (bytes-answer moves (o .held) _ (next-outside move moves before out low) (low .2))
 
-  -- what a list leaves that is not turned away, and its numbers
+  -- the numbers of a list that is not turned away
   abbrev listNumbers : List Move → Held → List ℕ
-  listNumbers moves held = noted (saidsOf rules held (handing (handsOf settings (Moves moves))))
+  listNumbers moves held = noted (listSaids kindNumber settings held moves)
 
   numbers-written : (moves : List Move) (held : Held) (numbers : List ℕ) → take (length moves) (written (listNumbers moves held) numbers) ≡ listNumbers moves held
   numbers-written moves held numbers =
       take-at (listNumbers moves held) (drop (length (listNumbers moves held)) numbers) (length moves) (noted-length kindNumber settings held moves)
 
-  -- "feeding those bytes to a fresh socket gives the same": either socket, wherever the other one stands
+  -- Feeding those bytes to a fresh socket gives the same: either socket, wherever the other one stands.
   pub list-fed : (moves : List Move) (numbers : List ℕ) (s : Socket) (w v : WorldOf rules) (saids : SaidsOf rules) → AllData moves
       → AllHold (movesTests kindNumber settings moves (w .held) numbers) → Sound rules w → w .receiver s ≡ fresh → History rules w (feed s (movesBytes settings moves)) v saids
       → (let l = movesOf kindNumber settings moves (w .held) numbers in (v .held ≡ l .held) × (noted saids ≡ byBytes (take (length moves) (l .reply))))
   list-fed moves numbers s w v saids low all sound new history =
       let valid = all .1 .1 .1 .1 .0 in
-      let begins = fresh-idle (w .receiver s) (w .receive s) new in
-      let outside = fresh-outside valid (starts rules w) s begins in
+      let outside = fresh-outside valid (starts rules w) s (fresh-idle (w .receiver s) (w .receive s) new) in
       let d = box-from-sound kindNumber settings w v (feed s (movesBytes settings moves)) saids sound history in
-      let finished = d .order ∙ bytes-finish valid (starts rules w) s begins moves [] outside low in
+      let finished = d .order ∙ bytes-finish valid (starts rules w) s moves [] outside low in
       rw (moves-passed kindNumber settings moves (w .held) numbers all) (
         d .held ∙ ap (heldAfter rules (w .held)) finished ∙ sym (same-held s moves (w .held)),
-        ap noted (d .each) ∙ bytes-answer valid (starts rules w) s begins moves (w .held) [] outside low
+        ap noted (d .each) ∙ bytes-answer valid (starts rules w) s moves (w .held) [] outside low
             ∙ ap (λ (l : List (Said Answer)). byBytes (noted l)) (sym (same-saids s moves (w .held))) ∙ ap byBytes (sym (numbers-written moves (w .held) numbers)),
       )
 
@@ -164,31 +163,21 @@ module _ (kind : Kind) (player : ℕ) (held : Held) (m : memorySize kind ≤ len
   controller-alone : EditAlone kind player held (controllerDoes kind player controller value held .held)
   controller-alone =
       let edit = bytesIn kind player Edit held in
-      let whole : length edit ≡ sizeOf kind = simp (length-take, length-drop) (omega arith) in
+      let whole = edit-length kind player held m in
       edit-alone kind player held m (applyOf kind controller value edit .edit) (length-kept kind controller value edit ∙ whole)
 
-  controller-numbered : MoveNumber (answerNumber (controllerDoes kind player controller value held .answer))
+  controller-numbered : (let number = answerNumber (controllerDoes kind player controller value held .answer) in (number ≡ 3) ⊎ ((17 ≤ number) × (number ≤ 19)))
   controller-numbered =
       let edit = bytesIn kind player Edit held in
-      let whole : length edit ≡ sizeOf kind = simp (length-take, length-drop) (omega arith) in
-      apply-cases kind controller value edit (λ (l : Changed). MoveNumber (answerNumber (changeAnswer (l .answer))))
+      let whole = edit-length kind player held m in
+      apply-cases kind controller value edit (λ (l : Changed). let number = answerNumber (changeAnswer (l .answer)) in (number ≡ 3) ⊎ ((17 ≤ number) × (number ≤ 19)))
       (λ short. absurd (omega arith)) (λ number lo hi. inr (lo, hi)) (λ _ _. inl refl)
-
-alone-same : (kind : Kind) (player : ℕ) (held : Held) → EditAlone kind player held held
-alone-same kind player held = record { programs-stay = λ _ _. refl; else-stays = λ _ _. refl; length-stays = refl }
-
-alone-more : (kind : Kind) (player : ℕ) (a b c : Held) → EditAlone kind player a b → EditAlone kind player b c → EditAlone kind player a c
-alone-more kind player a b c e f = record {
-  programs-stay = λ p h. f .programs-stay p h ∙ e .programs-stay p h;
-  else-stays = λ k h. f .else-stays k h ∙ e .else-stays k h;
-  length-stays = f .length-stays ∙ e .length-stays;
-}
 
 module _ (kindNumber : ℕ) (settings : Settings) (valid : isValid settings ≡ true) where
   move-alone : (move : Move) (held : Held) → memorySize (kindOf kindNumber) ≤ length (held .memory)
       → EditAlone (kindOf kindNumber) panel held (messageDoes (kindOf kindNumber) settings panel held (moveMessage settings move) .held)
   move-alone move held m =
-      subst (λ (o : Outcome). EditAlone (kindOf kindNumber) panel held (o .held)) (sym (on-channel (kindOf kindNumber) settings panel held move valid))
+      subst (λ (o : Outcome). EditAlone (kindOf kindNumber) panel held (o .held)) (sym (on-channel (kindOf kindNumber) panel held settings move valid))
       (controller-alone (kindOf kindNumber) panel held m (move .controller) (move .value))
 
   list-alone : (moves : List Move) (held : Held) → memorySize (kindOf kindNumber) ≤ length (held .memory)
@@ -199,14 +188,21 @@ module _ (kindNumber : ℕ) (settings : Settings) (valid : isValid settings ≡ 
       let kept = one .length-stays in
       alone-more (kindOf kindNumber) panel held _ _ one (list-alone moves _ (omega (arith, kept)))
 
-  list-numbered : (moves : List Move) (held : Held) → memorySize (kindOf kindNumber) ≤ length (held .memory) → (i : ℕ) → i < length moves
-      → MoveNumber (getD (listNumbers kindNumber settings moves held) i 0)
-  list-numbered [] held m i h = absurd (omega arith)
-  list-numbered (move ∷ moves) held m zero h =
-      rw (on-channel (kindOf kindNumber) settings panel held move valid) (controller-numbered (kindOf kindNumber) panel held m (move .controller) (move .value))
-  list-numbered (move ∷ moves) held m (suc i) h =
+  move-noted : (move : Move) (held : Held) → memorySize (kindOf kindNumber) ≤ length (held .memory)
+      → Noted (kindOf kindNumber) move (answerNumber (messageDoes (kindOf kindNumber) settings panel held (moveMessage settings move) .answer))
+  move-noted move held m = record {
+    numbered = rw (on-channel (kindOf kindNumber) panel held settings move valid) (controller-numbered (kindOf kindNumber) panel held m (move .controller) (move .value));
+    above-127 = λ high. ap answerNumber (high-controller (kindOf kindNumber) settings valid panel held m move high);
+    value-above-127 = λ listed high. ap answerNumber (high-value (kindOf kindNumber) settings valid panel held m move listed high);
+  }
+
+  list-noted : (moves : List Move) (held : Held) → memorySize (kindOf kindNumber) ≤ length (held .memory) → (i : ℕ) (none : Move) → i < length moves
+      → Noted (kindOf kindNumber) (getD moves i none) (getD (listNumbers kindNumber settings moves held) i 0)
+  list-noted [] held m i none h = absurd (omega arith)
+  list-noted (move ∷ moves) held m zero none h = move-noted move held m
+  list-noted (move ∷ moves) held m (suc i) none h =
       let kept = move-alone move held m .length-stays in
-      list-numbered moves _ (omega (arith, kept)) i (omega arith)
+      list-noted moves _ (omega (arith, kept)) i none (omega arith)
 
 -- Every list of moves.
 pub every-list : (kindNumber : ℕ) (settings : Settings) (moves : List Move) (held : Held) (numbers : List ℕ)
@@ -222,8 +218,8 @@ every-list kindNumber settings moves held numbers =
     record {
       numbered = inl refl;
       turned-away = λ h. absurd (omega arith);
-      each = λ _ i h. rw (List·getD-append (listNumbers kindNumber settings moves held) (drop (length (listNumbers kindNumber settings moves held)) numbers) 0 i (omega (arith, long)))
-          (list-numbered kindNumber settings valid moves held m i h);
+      each = λ _ i none h. rw (List·getD-append (listNumbers kindNumber settings moves held) (drop (length (listNumbers kindNumber settings moves held)) numbers) 0 i (omega (arith, long)))
+          (list-noted kindNumber settings valid moves held m i none h);
       behind = drop-at (listNumbers kindNumber settings moves held) (drop (length (listNumbers kindNumber settings moves held)) numbers) (length moves) long
           ∙ ap (λ (n : ℕ). drop n numbers) long;
       alone = list-alone kindNumber settings valid moves held m;

@@ -54,7 +54,7 @@ module _ (kindNumber : ℕ) (settings : Settings) (message : List ℕ) (held : H
 
 module _ (kindNumber : ℕ) (settings : Settings) (moves : List Move) (held : Held) (numbers : List ℕ) where
   -- the list, carried out
-  abbrev pub listed : Left
+  abbrev listed : Left
   listed = leaves (directDoes (boxRules kindNumber settings) held (Moves moves)) numbers
 
   pub moves-passed : AllHold (movesTests kindNumber settings moves held numbers) → movesOf kindNumber settings moves held numbers ≡ listed

@@ -64,7 +64,7 @@ module _ (kindNumber : ℕ) (settings : Settings) where
   kept held (FromDirect (FromList m)) g = omega (arith, tame-length (message-tame (kindOf kindNumber) settings panel held g m))
 
   -- what the messages of a list answer: a number for each move, and no reply
-  abbrev listSaids : Held → List Move → List (Said Answer)
+  abbrev pub listSaids : Held → List Move → List (Said Answer)
   listSaids held moves = saidsOf (boxRules kindNumber settings) held (handing (handsOf settings (Moves moves)))
 
   pub noted-length : (held : Held) (moves : List Move) → length (noted (listSaids held moves)) ≡ length moves

@@ -1,5 +1,6 @@
 -- Req 05, "Many moves in one go": what a list is to do, said by messages and by bytes.
 use Prim.Native.Nat.{ℕ, _+_, _≤_, _<_}
+use mathlib.Core.Bool.{true}
 use mathlib.Core.List.{List, [], _∷_}
 use mathlib.Core.Logic.{_⊎_}
 use mathlib.Core.Path.{_≡_}
@@ -8,6 +9,7 @@ use Rattle.ground.specs.Lists.{written}
 use Rattle.ground.specs.Calls.{left}
 use Rattle.kinds.specs.declared.Kind.{Kind}
 use Rattle.programs.specs.Held.{Held}
+use Rattle.controls.specs.Meaning.{controllersOf, isIn}
 use Rattle.sockets.specs.Calls.{Socket, Call, Byte, Direct, FromSocket}
 use Rattle.sockets.specs.Box.{FinishesOf, heldAfter, saidsOf}
 use Rattle.sysex.specs.declared.Settings.{Settings}
@@ -36,7 +38,7 @@ abbrev pub movesBytes : Settings → List Move → List ℕ
 movesBytes settings [] = []
 movesBytes settings (move ∷ moves) = (0xB0 + settings .channel) ∷ move .controller ∷ move .value ∷ movesBytes settings moves
 
--- "moves of data bytes"
+-- moves of data bytes
 abbrev pub AllData : List Move → Type 0
 AllData [] = Unit {0}
 AllData (move ∷ moves) = (move .controller ≤ 0x7F) × (move .value ≤ 0x7F) × AllData moves
@@ -53,19 +55,23 @@ FewMoves (Byte s b ∷ calls) = FewMoves calls
 FewMoves (Direct (Whole message) ∷ calls) = FewMoves calls
 FewMoves (Direct (Moves moves) ∷ calls) = (length moves ≤ mostMoves) × FewMoves calls
 
--- the numbers that the call returns, and those that are noted: "3, 17, 18 or 19"
+-- the numbers that the call returns
 abbrev pub ListNumber : ℕ → Type 0
 ListNumber number = (number ≡ 0) ⊎ ((number ≡ 30) ⊎ ((32 ≤ number) × (number ≤ 34)))
 
-abbrev pub MoveNumber : ℕ → Type 0
-MoveNumber number = (number ≡ 3) ⊎ ((17 ≤ number) × (number ≤ 19))
+-- what is noted for a move: 3, 17, 18 or 19; "a controller above 127 is 17, a value above 127 is 18, in the usual order"
+pub record Noted (kind : Kind) (move : Move) (number : ℕ) : Type 0 where
+  pub numbered : (number ≡ 3) ⊎ ((17 ≤ number) × (number ≤ 19))
+  pub above-127 : 127 < move .controller → number ≡ 17
+  pub value-above-127 : isIn (move .controller) (controllersOf kind) ≡ true → 127 < move .value → number ≡ 18
 
 -- what holds of every list, whatever is lent
 pub record AnsweredList (kind : Kind) (moves : List Move) (held : Held) (numbers : List ℕ) (l : Left) : Type 0 where
   pub numbered : ListNumber (answerNumber (l .answer))
   -- "nothing changes on any of these four"
   pub turned-away : 30 ≤ answerNumber (l .answer) → (l .held ≡ held) × (l .reply ≡ numbers)
-  pub each : answerNumber (l .answer) ≡ 0 → (i : ℕ) → i < length moves → MoveNumber (getD (l .reply) i 0)
-  -- "numbers behind the list keep their bytes"
+  -- number i is that of move i
+  pub each : answerNumber (l .answer) ≡ 0 → (i : ℕ) (none : Move) → i < length moves → Noted kind (getD moves i none) (getD (l .reply) i 0)
+  -- numbers behind the list keep their bytes
   pub behind : drop (length moves) (l .reply) ≡ drop (length moves) numbers
   pub alone : EditAlone kind panel held (l .held)

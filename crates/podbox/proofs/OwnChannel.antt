@@ -4,14 +4,14 @@ use mathlib.Core.Bool.{true}
 use mathlib.Core.Path.{_≡_, _∙_}
 use native.Mathlib.Omega.{arith}
 use lib.Dec.{leb}
-use lib.ListN.{length, length-take, length-drop}
+use lib.ListN.{length}
 use borrow.Author.Tests.{leb-true, eq-eqb}
 use Rattle.ground.proofs.Tests.{both}
 use Rattle.kinds.specs.declared.Kind.{Kind}
 use Rattle.kinds.specs.Kinds.{sizeOf}
 use Rattle.programs.specs.Memory.{memorySize}
 use Rattle.programs.specs.Held.{Held, Edit, placeFor, bytesIn}
-use Rattle.programs.proofs.Parts.{put-length}
+use Rattle.programs.proofs.Parts.{put-length, edit-length}
 use Rattle.controls.specs.Applying.{applyOf}
 use Rattle.controls.proofs.Controllers.{length-kept}
 use Rattle.sysex.specs.declared.Settings.{Settings}
@@ -24,12 +24,12 @@ pub valid-channel : (settings : Settings) → isValid settings ≡ true → sett
 unfolding isValid
 valid-channel settings valid = leb-true (settings .channel) 15 (both (leb (settings .channel) 15) _ valid .0)
 
-module _ (kind : Kind) (settings : Settings) (player : ℕ) (held : Held) where
+module _ (kind : Kind) (player : ℕ) (held : Held) where
   -- "sent one by one on our channel"
-  pub on-channel : (move : Move) → isValid settings ≡ true
+  pub on-channel : (settings : Settings) (move : Move) → isValid settings ≡ true
       → messageDoes kind settings player held (moveMessage settings move) ≡ controllerDoes kind player (move .controller) (move .value) held
   unfolding messageDoes channelDoes isHeard isController
-  on-channel move valid =
+  on-channel settings move valid =
       let low = valid-channel settings valid in
       rw (eq-eqb ((0xB0 + settings .channel) % 16) (settings .channel) (omega arith), eq-eqb ((0xB0 + settings .channel) / 16) 0xB (omega arith))
 
@@ -37,5 +37,5 @@ module _ (kind : Kind) (settings : Settings) (player : ℕ) (held : Held) where
       → length (controllerDoes kind player controller value held .held .memory) ≡ length (held .memory)
   controller-length controller value m =
       let edit = bytesIn kind player Edit held in
-      let whole : length edit ≡ sizeOf kind = simp (length-take, length-drop) (omega arith) in
-      put-length (placeFor kind player Edit) (sizeOf kind) (applyOf kind controller value edit .edit) (held .memory) (omega arith) (length-kept kind controller value edit ∙ whole)
+      put-length (placeFor kind player Edit) (sizeOf kind) (applyOf kind controller value edit .edit) (held .memory) (omega arith)
+      (length-kept kind controller value edit ∙ edit-length kind player held m)

@@ -21,7 +21,7 @@ use Rattle.sysex.specs.declared.Answer.{Answer}
 use Rattle.sysex.specs.declared.Answer.the-variants.{Taken, Cut}
 use Rattle.sysex.specs.Forms.{longest}
 use Rattle.sysex.specs.Numbers.{refused, answerNumber, answerLength}
-use Rattle.sysex.specs.Carrying.{Outcome, Left, refusing, heldTest, bufferTest}
+use Rattle.sysex.specs.Carrying.{Outcome, Left, refusing, memoryTest, heldTest, bufferTest}
 use Rattle.podbox.specs.Settings.{isValid}
 use Rattle.podbox.specs.declared.Move.{Move}
 use Rattle.podbox.specs.Messages.{controllerDoes, messageDoes}
@@ -60,9 +60,9 @@ handedTests kind settings held reply = heldTest kind held ∷ bufferTest kind re
 abbrev pub wholeTests : ℕ → Settings → Held → List ℕ → List (Test ℕ)
 wholeTests kindNumber settings held reply = kindTest kindNumber ∷ handedTests (kindOf kindNumber) settings held reply
 
--- a list "tests .. 30 and 32": it has neither socket nor reply
+-- "then 30 and 32": a list has neither socket nor reply
 abbrev pub memoryTests : Kind → Settings → ℕ → List (Test ℕ)
-memoryTests kind settings memory = test 30 (leb (memorySize kind) memory) ∷ settingsTest settings ∷ []
+memoryTests kind settings memory = memoryTest kind memory ∷ settingsTest settings ∷ []
 
 -- A list of moves, by how many they are and the lengths of what is lent. "Refusals, tested 33, 34, then 30 and 32: more moves than 256 gives 33; a number
 -- buffer shorter than the list gives 34"; and 32 for the kind stands just before 30
@@ -111,7 +111,7 @@ abbrev pub only : List (Said Answer) → Said Answer
 only [] = said Taken []
 only (a ∷ rest) = a
 
--- "the number noted for each move"
+-- the numbers of what was said; of the messages of a list "the number noted for each move"
 abbrev pub noted : List (Said Answer) → List ℕ
 noted saids = map (λ (a : Said Answer). answerNumber (a .answer)) saids
 

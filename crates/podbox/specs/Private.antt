@@ -35,7 +35,7 @@ Within kind event.TooLong = Unit {0}
 Within kind (event.SysEx count) = count ≤ limit kind
 Within kind (event.Channel status first second) = Unit {0}
 
--- the rules behind the test of the kind
+-- the rules behind the test of the kind; no list is put to these tests
 abbrev pub kindRules : Kind → Settings → Rules
 kindRules kind settings = rulesWith (lentTests kind settings) (λ given. handedTests kind settings) kind settings
 

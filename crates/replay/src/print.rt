@@ -39,8 +39,8 @@ pub(crate) fn answered(
     }
 }
 
-// The line of a list of moves, and a second with their numbers where they were made. So few are made that the message is as
-// long as the desk says.
+// The line of a list of moves, and a second with their numbers where they were made: a list that is taken is shorter than
+// the message buffer.
 pub(crate) fn listed(
     desk: Desk,
     answer: Answer,

@@ -44,11 +44,15 @@ module _ (rules : Rules) (start : Socket → Framer) (s : Socket) where
   moved : (before : CallsOf rules) (b : ℕ) → At (before ++ (Byte s b ∷ [])) ≡ hears (rules .limit) (At before) b .next
   moved before b = stands-byte (rules .limit) (start s) s s b before ∙ itself s _ _
 
-  -- a channel message of two data bytes: the calls after its three, what it finishes and what its bytes are answered, in front of other calls
-  module _ (before calls : CallsOf rules) (status first second : ℕ) (opened : hears (rules .limit) (At before) status ≡ hear Nothing (AwaitTwo status))
+  -- the calls after the three of a channel message of two data bytes
+  abbrev pub behind : CallsOf rules → ℕ → ℕ → ℕ → CallsOf rules
+  behind before status first second = ((before ++ (Byte s status ∷ [])) ++ (Byte s first ∷ [])) ++ (Byte s second ∷ [])
+
+  -- where it leaves the socket, what it finishes and what its bytes are answered, in front of other calls
+  module _ (before : CallsOf rules) (status first second : ℕ) (opened : hears (rules .limit) (At before) status ≡ hear Nothing (AwaitTwo status))
       (low : leb first 0x7F ≡ true) (low′ : leb second 0x7F ≡ true) where
-    abbrev pub behind : CallsOf rules
-    behind = ((before ++ (Byte s status ∷ [])) ++ (Byte s first ∷ [])) ++ (Byte s second ∷ [])
+    abbrev after : CallsOf rules
+    after = behind before status first second
 
     first-heard : hears (rules .limit) (At (before ++ (Byte s status ∷ []))) first ≡ hear Nothing (Half status first)
     first-heard = rw (moved before status, opened) (low-heard (rules .limit) (AwaitTwo status) first low)
@@ -56,24 +60,24 @@ module _ (rules : Rules) (start : Socket → Framer) (s : Socket) where
     second-heard : hears (rules .limit) (At ((before ++ (Byte s status ∷ [])) ++ (Byte s first ∷ []))) second ≡ hear (Finished (Channel status first second)) (AwaitTwo status)
     second-heard = rw (moved (before ++ (Byte s status ∷ [])) first, first-heard) (low-heard (rules .limit) (Half status first) second low′)
 
-    pub channel-stands : At behind ≡ AwaitTwo status
+    pub channel-stands : At after ≡ AwaitTwo status
     channel-stands = moved ((before ++ (Byte s status ∷ [])) ++ (Byte s first ∷ [])) second ∙ ap (λ (h : Heard). h .next) second-heard
 
-    pub channel-finishes : finishedBy rules start before (Byte s status ∷ Byte s first ∷ Byte s second ∷ calls) ≡ FromSocket s (Channel status first second) ∷ finishedBy rules start behind calls
+    pub channel-finishes : (calls : CallsOf rules) → finishedBy rules start before (Byte s status ∷ Byte s first ∷ Byte s second ∷ calls) ≡ FromSocket s (Channel status first second) ∷ finishedBy rules start after calls
     unfolding finishes
-    channel-finishes =
-        (λ i. finishing s (opened i .what) ++ (finishing s (first-heard i .what) ++ (finishing s (second-heard i .what) ++ finishedBy rules start behind calls)))
+    channel-finishes calls =
+        (λ i. finishing s (opened i .what) ++ (finishing s (first-heard i .what) ++ (finishing s (second-heard i .what) ++ finishedBy rules start after calls)))
 
-    pub channel-answers : (held : rules .Held) →
+    pub channel-answers : (calls : CallsOf rules) (held : rules .Held) →
         (let o = rules .carry held (FromSocket s (Channel status first second)) in
         saidsAlong rules start held before (Byte s status ∷ Byte s first ∷ Byte s second ∷ calls)
-        ≡ said (rules .plain 0) [] ∷ said (rules .plain 0) [] ∷ saidOf o ∷ saidsAlong rules start (o .held) behind calls)
-    channel-answers held =
+        ≡ said (rules .plain 0) [] ∷ said (rules .plain 0) [] ∷ saidOf o ∷ saidsAlong rules start (o .held) after calls)
+    channel-answers calls held =
         (λ i.
         let a = happeningDoes rules held s (opened i .what) in
         let b = happeningDoes rules (a .held) s (first-heard i .what) in
         let c = happeningDoes rules (b .held) s (second-heard i .what) in
-        saidOf a ∷ saidOf b ∷ saidOf c ∷ saidsAlong rules start (c .held) behind calls)
+        saidOf a ∷ saidOf b ∷ saidOf c ∷ saidsAlong rules start (c .held) after calls)
 
   module _ (held : rules .Held) where
     -- what calls finish and what they answer, where the last one finishes a message and the others, one for each of these bytes, none

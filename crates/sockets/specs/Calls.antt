@@ -6,7 +6,7 @@ use Rattle.sockets.specs.Framer.{Message, Happening, Nothing, Cut, Finis
 pub data Socket : Type 0 where
   S0 S1 : Socket
 
--- a byte arrives at a socket, or the panel calls directly, with what it hands over
+-- a byte arrives at a socket, or a call comes directly, with what it hands over
 pub data Call (Given : Type 0) : Type 0 where
   Byte : Socket → ℕ → Call Given
   Direct : Given → Call Given

@@ -39,7 +39,7 @@ module _ {Held : Type 0} where
 
 module _ (rules : Rules) where
   -- From one world to another: each call keeps its promise, and "no call is turned away". What it says is its answer, and as many first bytes of the
-  -- buffer lent for the reply as that tells.
+  -- buffer lent for the reply as that tells, or, of a direct call, as `extent` does.
   pub data History : WorldOf rules → CallsOf rules → WorldOf rules → SaidsOf rules → Type 0 where
     nothing : {w : WorldOf rules} → History w [] w []
     byte : {w v : WorldOf rules} {calls : CallsOf rules} {saids : SaidsOf rules} {s : Socket} {b : ℕ} (reply : List ℕ)

@@ -55,9 +55,12 @@ orderDoes kind settings player (order.Refused check) body held = refusing held (
 abbrev pub bodyDoes : Kind → Settings → ℕ → List ℕ → Held → Outcome
 bodyDoes kind settings player body held = orderDoes kind settings player (judgeOf kind settings body) body held
 
--- 30 "a lent buffer too short": what the box holds, and a receive or a reply buffer
+-- 30 "a lent buffer too short": memory by its length, what the box holds, and a receive or a reply buffer
+abbrev pub memoryTest : Kind → ℕ → Test ℕ
+memoryTest kind count = test 30 (leb (memorySize kind) count)
+
 abbrev pub heldTest : Kind → Held → Test ℕ
-heldTest kind held = test 30 (leb (memorySize kind) (length (held .memory)))
+heldTest kind held = memoryTest kind (length (held .memory))
 
 abbrev pub bufferTest : Kind → List ℕ → Test ℕ
 bufferTest kind buffer = test 30 (leb (longest kind) (length buffer))

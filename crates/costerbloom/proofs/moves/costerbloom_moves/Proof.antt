@@ -57,7 +57,7 @@ use Rattle.podbox.proofs.Move as T
 use Rattle.podbox.proofs.Move.Laws as T′
 use Rattle.costerbloom.specs.declared.moves.Allowed.{Allowed}
 use Rattle.costerbloom.specs.Numbers.{settingsOf, movesNumbers}
-use Rattle.costerbloom.specs.Private.{Desk, desk, allowedOf, makeOf, makeAll}
+use Rattle.costerbloom.specs.Private.{Buffers, buffers, allowedOf, makeOf, makeAll}
 use Rattle.costerbloom.proofs.Again.{under, lends-again, comes-back}
 use Rattle.costerbloom.proofs.Making.{count-listed, count-noted, promised}
 use Rattle.costerbloom.proofs.moves.Allowed as U
@@ -95,9 +95,9 @@ answer-fits : (r : Allowed) (w : Val) → Is U.the-row r (w ∷ []) → r .answe
 answer-fits r w is = LL.owed U.the-type U′.the-laws r _ is .1 .0 .1
 
 -- how far the loop is: i moves are made, d is what they left, and the moves that are left make of d what all of them make of what there was
-record Upto (all : ℕ → List Move → Desk → Desk) (moves : List Move) (count : ℕ) (begun : Desk) : Type 0 where
+record Upto (all : ℕ → List Move → Buffers → Buffers) (moves : List Move) (count : ℕ) (begun : Buffers) : Type 0 where
   i : ℕ
-  d : Desk
+  d : Buffers
   upto : i ≤ count
   same-memory : length (d .memory) ≡ length (begun .memory)
   same-numbers : length (d .numbers) ≡ length (begun .numbers)
@@ -183,17 +183,17 @@ module _ {M : Type 1} (𝓤 : URA M) (H : Heap 𝓤) (A : Atoms 𝓤) (at-mem : 
       abbrev one : ℕ → Move
       one i = getD moves i none
 
-      abbrev all : ℕ → List Move → Desk → Desk
+      abbrev all : ℕ → List Move → Buffers → Buffers
       all = makeAll kind
 
-      abbrev begun : Desk
-      begun = desk (memory .now) (numbers .now)
+      abbrev begun : Buffers
+      begun = buffers (memory .now) (numbers .now)
 
       -- what is owned of the slices, where the buffers hold d
       abbrev OwnMoves : Fml
       OwnMoves = ShrSlice (named 0) (κs .0) T.the-row .own (a .0) (values .0)
 
-      abbrev had : Desk → List (Item 𝓤)
+      abbrev had : Buffers → List (Item 𝓤)
       had d =
           ‵ (flft (κs .0) (qs .0)) ∷ ‵ (flft (κs .1 .0) (qs .1 .0)) ∷ ‵ (flft (κs .1 .1 .0) (qs .1 .1 .0)) ∷ ‵ OwnMoves ∷
           ‵ (MutSlice (named 1) (κs .1 .0) u8 .own (at-last memory (d .memory)) (values .1 .1 .1 .1 .1 .1 .1 .1 .0)) ∷
@@ -231,7 +231,7 @@ module _ {M : Type 1} (𝓤 : URA M) (H : Heap 𝓤) (A : Atoms 𝓤) (at-mem : 
           some (λ (zs : Lasts allow.ended tt asked). ‵ (lasts allow.ended tt asked zs) ⊛ raw (fact 𝓤 (r ≡ allowed)))))
 
       -- what `make` is handed, where i moves are made and the buffers are lent for the lifetimes ν and μ, under the names δ and ε
-      module _ (ν : ℕ) (δ : GName) (μ : ℕ) (ε : GName) (i : ℕ) (d : Desk) where
+      module _ (ν : ℕ) (δ : GName) (μ : ℕ) (ε : GName) (i : ℕ) (d : Buffers) where
         abbrev κs′ : Lfts (make.signature .lifetimes)
         κs′ = (ν ∷ [], (μ ∷ [], tt))
 
@@ -244,10 +244,10 @@ module _ {M : Type 1} (𝓤 : URA M) (H : Heap 𝓤) (A : Atoms 𝓤) (at-mem : 
         -- what it gives back: the tokens, nothing, the last lists of the buffers, and what it ensures
         abbrev MadeBack : Val → Item 𝓤
         MadeBack w = later (some (λ (r : Unit {0}). ((‵ (flft (ν ∷ []) fullShare) ⊛ ‵ (flft (μ ∷ []) fullShare) ⊛ ‵ ftrue) ⊛ ‵ (unit .own r (w ∷ []))) ⊛
-            some (λ (zs : Lasts make.ended κs′ handed). ‵ (lasts make.ended κs′ handed zs) ⊛ raw (fact 𝓤 (desk (zs .1 .1 .1 .0) (zs .1 .1 .1 .1 .0) ≡ makeOf kind i (one i) d)))))
+            some (λ (zs : Lasts make.ended κs′ handed). ‵ (lasts make.ended κs′ handed zs) ⊛ raw (fact 𝓤 (buffers (zs .1 .1 .1 .0) (zs .1 .1 .1 .1 .0) ≡ makeOf kind i (one i) d)))))
 
       -- the last lists, where the buffers hold d; what is to be shown at exit, of an answer n and of the last lists zs
-      abbrev ended : Desk → Lasts this.ended κs a
+      abbrev ended : Buffers → Lasts this.ended κs a
       ended d = (tt, (tt, (tt, (tt, (tt, (tt, (tt, (tt, (d .memory, (d .numbers, tt))))))))))
 
       abbrev Ends : ℕ → Lasts this.ended κs a → SProp 𝓤
@@ -298,10 +298,10 @@ module _ {M : Type 1} (𝓤 : URA M) (H : Heap 𝓤) (A : Atoms 𝓤) (at-mem : 
           i-fits = let next = next-fits in omega (arith, next)
 
           -- what `make` leaves is one turn further
-          abbrev next : (m n : List ℕ) → desk m n ≡ makeOf kind (t .i) (one (t .i)) (t .d) → length m ≡ length (t .d .memory) → length n ≡ length (t .d .numbers) → State
+          abbrev next : (m n : List ℕ) → buffers m n ≡ makeOf kind (t .i) (one (t .i)) (t .d) → length m ≡ length (t .d .memory) → length n ≡ length (t .d .numbers) → State
           next m n as-made same-m same-n = record {
             i = t .i + 1;
-            d = desk m n;
+            d = buffers m n;
             upto = add-one-le within;
             same-memory = same-m ∙ t .same-memory;
             same-numbers = same-n ∙ t .same-numbers;
@@ -317,7 +317,7 @@ module _ {M : Type 1} (𝓤 : URA M) (H : Heap 𝓤) (A : Atoms 𝓤) (at-mem : 
             let at-end : t .i ≡ c .count = omega (arith, upto, over) in
             let none-left : slice (t .i) (c .count) moves ≡ [] = rw (at-end, slice-empty (c .count) moves) in
             let made : t .d ≡ all 0 (take (c .count) moves) begun = sym (ap (λ (l : List Move). all (t .i) l (t .d)) none-left) ∙ t .gets in
-            ap (λ (d : Desk). left (c .answer) (heldOf (d .memory)) (d .numbers)) made
+            ap (λ (d : Buffers). left (c .answer) (heldOf (d .memory)) (d .numbers)) made
             ∙ ap (λ (r : Allowed). let d = all 0 (take (r .count) moves) begun in left (r .answer) (heldOf (d .memory)) (d .numbers)) e
             ∙ promised kind (settingsOf channel omni revision0 revision1 revision2 revision3) moves (memory .now) (numbers .now)
 
@@ -382,7 +382,7 @@ module _ {M : Type 1} (𝓤 : URA M) (H : Heap 𝓤) (A : Atoms 𝓤) (at-mem : 
               (and-then ! (load ! (from ! (stop !)) (look ! 34 refl)) (and-then ! (load ! (from ! (stop !)) (look ! 12 refl))
               (and-then ! (load ! (from ! (stop !)) (look ! 54 refl)) (and-then ! (load ! (from ! (stop !)) (look ! 58 refl)) (no-more !)))))) (λ w.
               use1 W (MadeBack ν δ μ ε (t .i) (t .d) w) (id⊢ 𝓤 _) $ await ! tt $ pick ! (λ r. split ! $ split ! $ move ! (2 ∷ []) $ pick ! (λ zs. split ! $
-              move ! (1 ∷ []) $ heard ! (desk (zs .1 .1 .1 .0) (zs .1 .1 .1 .1 .0) ≡ makeOf kind (t .i) (one (t .i)) (t .d)) (λ as-made. move ! (2 ∷ []) $
+              move ! (1 ∷ []) $ heard ! (buffers (zs .1 .1 .1 .0) (zs .1 .1 .1 .1 .0) ≡ makeOf kind (t .i) (one (t .i)) (t .d)) (λ as-made. move ! (2 ∷ []) $
               peeks ! unit (Is unit) (shows 𝓤 H A unit) r (w ∷ []) (λ is. land ! (from ! (stop !)) (init ! 46 refl (nothing-lawful 𝓤 H A W .typed r _ is .0)) $
               -- the lifetimes are ended, and the buffers come back
               move ! (2 ∷ []) $ split ! $ move ! (1 ∷ []) $ split ! $ move ! (1 ∷ []) $ drop ! $ move ! (3 ∷ []) $ fsplit ! $ move ! (1 ∷ []) $ fsplit ! $

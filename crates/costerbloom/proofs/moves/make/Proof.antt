@@ -4,7 +4,7 @@ use mathlib.Core.Path.{ap}
 use lib.ListN.{set}
 use Rattle.sysex.specs.Carrying.{Outcome}
 use Rattle.sysex.specs.Numbers.{answerNumber}
-use Rattle.costerbloom.specs.Private.{desk, makeOf}
+use Rattle.costerbloom.specs.Private.{buffers, makeOf}
 use borrow.Author.Needs.{needs}
 use Rattle.costerbloom.proofs.moves.make.Statement.{statement}
 use Rattle.costerbloom.proofs.moves.make.Tie as tie
@@ -15,7 +15,7 @@ returns c =
     let k = c .before .before .before in
     let a = k .before .before .before .before .before .args in
     rw (← k .before .before .kind-of .ensures, c .answer-number .ensures)
-    (ap (λ (o : Outcome). desk (o .held .memory) (set (now (a .numbers)) (a .place) (answerNumber (o .answer)))) (k .make-move .ensures))
+    (ap (λ (o : Outcome). buffers (o .held .memory) (set (now (a .numbers)) (a .place) (answerNumber (o .answer)))) (k .make-move .ensures))
 
 pub make-spec : {M : Type 1} → statement M
 make-spec =
