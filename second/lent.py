@@ -11,7 +11,7 @@ from player import MEMORY_ROOM, MESSAGE_ROOM, ROOMS
 from scenes import add_counts, add_list_order, add_no_sockets_lent
 from script import Script
 from switched import (NO_KINDS, add_no_kinds, add_other_buffers,
-                      add_switched)
+                      add_switched, mend, spoil)
 
 HOLDING = {'running': 0xB0, 'held': 1}
 # Counts of stored bytes around the limit of each kind, and between them.
@@ -174,16 +174,12 @@ def add_order(script):
     for no_kind, short, wrong_socket, wrong, wrong_setting, buffer in choices:
         own = 1 if wrong_socket else 0
         tested = RECEIVE[own] if buffer else MEMORY
-        if no_kind:
-            script.bring(NO_KINDS[0])
-        if short:
-            script.lend(tested, kind.least[tested] - 1)
+        spoil(script, no_kind, short, tested)
         if wrong_setting:
             script.settings(16, 0)
         script.receiver(own, **unsound(kind)[0] if wrong else full(kind))
         script.send_hex(2 if wrong_socket else 0, 'F7')
-        script.bring_back()
-        script.lend_back(tested)
+        mend(script, tested)
         script.settings(0, 0)
     for socket in (0, 1):
         script.receiver(socket)
@@ -205,16 +201,12 @@ def add_whole_order(script):
     kind = script.kind
     choices = product((MEMORY, REPLY), *((False, True),) * 5)
     for buffer, no_kind, short, wrong_setting, long, unframed in choices:
-        if no_kind:
-            script.bring(NO_KINDS[0])
-        if short:
-            script.lend(buffer, kind.least[buffer] - 1)
+        spoil(script, no_kind, short, buffer)
         if wrong_setting:
             script.revision(3, 0x80)
         message = b'\xF0' + wave(3, kind.longest if long else 20) + b'\xF7'
         script.whole(message[1 if unframed else 0:])
-        script.bring_back()
-        script.lend_back(buffer)
+        mend(script, buffer)
         script.settings_back()
 
 
@@ -299,15 +291,11 @@ def add_back_order(script):
     *_, (controller, rule) = script.kind.table.items()
     choices = product((False, True), repeat=5)
     for no_kind, short, unknown, unselected, no_value in choices:
-        if no_kind:
-            script.bring(NO_KINDS[0])
-        if short:
-            script.lend(MEMORY, script.kind.memory_length - 1)
+        spoil(script, no_kind, short)
         select(script, 6 if unselected else (rule.chosen_by or (0,))[0])
         fill(script, rule.field, 0xFF if no_value else 1)
         script.back(65536 + controller if unknown else controller)
-        script.bring_back()
-        script.lend_back(MEMORY)
+        mend(script)
 
 
 def add_scale_order(script):

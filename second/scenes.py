@@ -6,13 +6,13 @@ as a script's message holds it: a controller, its value, and so on.
 
 from itertools import chain, product
 
-from box import MEMORY, RECEIVE, REPLY
+from box import RECEIVE, REPLY
 from controllers import SELECTOR
 from kinds import ALL, EDIT, KINDS
 from messages import dump, edit_with, noise, request, wave, waves
 from moves import MOST
 from player import MESSAGE_ROOM
-from switched import NO_KINDS
+from switched import mend, spoil
 
 # Controllers that want an effect on some kind of box.
 SHARED = tuple(controller for kind in KINDS
@@ -54,20 +54,15 @@ def add_counts(script):
 
 def add_list_order(script):
     """Every choice of reasons for 33, 34, 32, 30 and 32 at once."""
-    kind = script.kind
     choices = product((False, True), repeat=5)
     for many, no_room, no_kind, short, wrong_setting in choices:
         count = MOST + 1 if many else MOST
         script.lend(REPLY, count - 1 if no_room else count)
-        if no_kind:
-            script.bring(NO_KINDS[0])
-        if short:
-            script.lend(MEMORY, kind.least[MEMORY] - 1)
+        spoil(script, no_kind, short)
         if wrong_setting:
             script.settings(16, 0)
         script.moves(wave(3, 2 * count))
-        script.bring_back()
-        script.lend_back(MEMORY)
+        mend(script)
         script.settings(0, 0)
     script.lend_back(REPLY)
 

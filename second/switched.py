@@ -16,6 +16,20 @@ NO_KINDS = (2, 3, 0xFF, 0x100, 0x101, 0xFFFF, 1 << 24, (1 << 24) + 1,
             0x80000000, 0xFF000001, 0xFF00FFFF)
 
 
+def spoil(script, no_kind, short, buffer=MEMORY):
+    """Bring no kind's number, lend a buffer a byte short, where it is so."""
+    if no_kind:
+        script.bring(NO_KINDS[0])
+    if short:
+        script.lend(buffer, script.kind.least[buffer] - 1)
+
+
+def mend(script, buffer=MEMORY):
+    """Bring and lend again what the box wants."""
+    script.bring_back()
+    script.lend_back(buffer)
+
+
 def add_calls(script):
     """A call of each sort, and a byte on a socket that is none."""
     for socket in (0, 1, 2):

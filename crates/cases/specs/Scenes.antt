@@ -30,10 +30,11 @@ move controller value = record { controller = controller; value = value }
 abbrev pub channel16 : Settings
 channel16 = record { channel = 16; omni = 0; revision0 = 0; revision1 = 0; revision2 = 0; revision3 = 0 }
 
--- a fresh box of a kind that is lent a buffer of so many 9s: the call's number, and the buffer
+-- what a list leaves on a fresh box of a kind that is lent a buffer of so many 9s
 abbrev pub scene : Kind → ℕ → List Move → Left
 scene kind count moves = movesOf (numberOf kind) freshSettings moves (freshHeld kind) (replicate count 9)
 
+-- the call's number, and the buffer
 abbrev pub listed : Kind → ℕ → List Move → List ℕ
 listed kind count moves = let l = scene kind count moves in answerNumber (l .answer) ∷ l .reply
 

@@ -185,7 +185,10 @@ module _ (kind : Kind) (settings : Settings) (valid : isValid settings ≡ true)
       in-order (moveTests (rowOf kind (move .controller)) (move .value) (bytesIn kind player Edit held)) moveAnswer answer.Applied number
       (λ e. let z : _≡_ {A = ℕ} 0 1 = cc in omega arith) sent-tested
 
-  -- "a controller above 127 is 17, a value above 127 is 18, in the usual order"
+  -- "a controller above 127 is 17, a value above 127 is 18, in the usual order": 17 at any value for a controller that the kind has not
+  pub not-listed : isIn (move .controller) (controllersOf kind) ≡ false → moveAnswer ≡ refused 17
+  not-listed other = sent-tested ∙ (rw (listed-exactly kind (move .controller) ∙ other))
+
   pub high-controller : 127 < move .controller → moveAnswer ≡ refused 17
   high-controller high = sent-tested ∙ (rw (eq-eqb _ 0 (above-127 kind (move .controller) high)))
 

@@ -26,7 +26,7 @@ use Rattle.sockets.specs.Box.{Said, said, Rules, CallsOf, FinishesOf, SaidsOf, 
 use Rattle.sockets.specs.Promise.{socketNumber}
 use Rattle.sockets.specs.History.{WorldOf, History, saidsAlong}
 use Rattle.sockets.specs.Demand.{framerOf, Sound, starts}
-use Rattle.sockets.proofs.Fed.{At, idle-heard, again-heard, behind, channel-stands, channel-finishes, channel-answers}
+use Rattle.sockets.proofs.Fed.{two-awaited, At, behind, channel-stands, channel-finishes, channel-answers}
 use Rattle.sysex.specs.declared.Settings.{Settings}
 use Rattle.sysex.specs.declared.Answer.{Answer}
 use Rattle.sysex.specs.declared.Answer.the-variants.{Taken}
@@ -41,7 +41,7 @@ use Rattle.podbox.proofs.OwnChannel.{valid-channel, on-channel}
 use Rattle.demands.specs.EditAlone.{EditAlone}
 use Rattle.demands.specs.Moves.{sentOn, OneByOne, movesBytes, AllData, byBytes, ListNumber, Noted, AnsweredList}
 use Rattle.demands.proofs.Passed.{moves-passed, moves-cases}
-use Rattle.demands.proofs.InOrder.{high-controller, high-value}
+use Rattle.demands.proofs.InOrder.{not-listed, high-controller, high-value}
 use Rattle.demands.proofs.EditAlone.{alone-same, alone-more, edit-alone}
 use Rattle.demands.proofs.Sockets.{listSaids, noted-length, box-from-sound}
 
@@ -97,10 +97,10 @@ module _ (kindNumber : ℕ) (settings : Settings) where
     Outside before = hears (limit (kindOf kindNumber)) (At rules start s before) status ≡ hear Nothing (AwaitTwo status)
 
     fresh-outside : start s ≡ Idle → Outside []
-    fresh-outside begins = let low = valid-channel settings valid in rw begins (idle-heard (limit (kindOf kindNumber)) status (omega arith) (omega arith) two)
+    fresh-outside begins = let low = valid-channel settings valid in rw begins (two-awaited (limit (kindOf kindNumber)) Idle status refl (omega arith) (omega arith) two)
 
     again-outside : (before : CallsOf rules) → At rules start s before ≡ AwaitTwo status → Outside before
-    again-outside before e = let low = valid-channel settings valid in rw e (again-heard (limit (kindOf kindNumber)) status (omega arith) (omega arith) two status)
+    again-outside before e = let low = valid-channel settings valid in rw e (two-awaited (limit (kindOf kindNumber)) (AwaitTwo status) status refl (omega arith) (omega arith) two)
 
     module _ (move : Move) (moves : List Move) (before : CallsOf rules) (out : Outside before) (low : AllData (move ∷ moves)) where
       abbrev rest : CallsOf rules
@@ -192,6 +192,7 @@ module _ (kindNumber : ℕ) (settings : Settings) (valid : isValid settings ≡ 
       → Noted (kindOf kindNumber) move (answerNumber (messageDoes (kindOf kindNumber) settings panel held (moveMessage settings move) .answer))
   move-noted move held m = record {
     numbered = rw (on-channel (kindOf kindNumber) panel held settings move valid) (controller-numbered (kindOf kindNumber) panel held m (move .controller) (move .value));
+    unlisted = λ other. ap answerNumber (not-listed (kindOf kindNumber) settings valid panel held m move other);
     above-127 = λ high. ap answerNumber (high-controller (kindOf kindNumber) settings valid panel held m move high);
     value-above-127 = λ listed high. ap answerNumber (high-value (kindOf kindNumber) settings valid panel held m move listed high);
   }

@@ -1,6 +1,6 @@
 -- Req 05, "Many moves in one go": what a list is to do, said by messages and by bytes.
 use Prim.Native.Nat.{ℕ, _+_, _≤_, _<_}
-use mathlib.Core.Bool.{true}
+use mathlib.Core.Bool.{true, false}
 use mathlib.Core.List.{List, [], _∷_}
 use mathlib.Core.Logic.{_⊎_}
 use mathlib.Core.Path.{_≡_}
@@ -62,6 +62,7 @@ ListNumber number = (number ≡ 0) ⊎ ((number ≡ 30) ⊎ ((32 ≤ number) × 
 -- what is noted for a move: 3, 17, 18 or 19; "a controller above 127 is 17, a value above 127 is 18, in the usual order"
 pub record Noted (kind : Kind) (move : Move) (number : ℕ) : Type 0 where
   pub numbered : (number ≡ 3) ⊎ ((17 ≤ number) × (number ≤ 19))
+  pub unlisted : isIn (move .controller) (controllersOf kind) ≡ false → number ≡ 17
   pub above-127 : 127 < move .controller → number ≡ 17
   pub value-above-127 : isIn (move .controller) (controllersOf kind) ≡ true → 127 < move .value → number ≡ 18
 

@@ -10,7 +10,7 @@ use borrow.Author.Tests.{leb-true, lt-leb, lt-ltb, le-ltb}
 use Rattle.ground.specs.Lists.{allAtMost}
 use Rattle.ground.proofs.Tests.{both}
 use Rattle.framing.specs.Receiver.{takesOne}
-use Rattle.sockets.specs.Framer.{Channel, Happening, Nothing, Finished, Framer, Idle, AwaitTwo, Half, Inside, Heard, hear, hearsData, closed, hears}
+use Rattle.sockets.specs.Framer.{Channel, Happening, Nothing, Finished, Framer, Idle, AwaitTwo, Half, Inside, Heard, hear, hearsData, hearsStatus, afterStatus, closed, hears}
 use Rattle.sockets.specs.Calls.{Socket, S0, S1, Byte, FromSocket, ifSame, stands, bytesOf, feed, finishing, finishes}
 use Rattle.sockets.specs.Box.{said, Rules, CallsOf, FinishesOf, SaidsOf, Lawful, saidOf, finishedBy, heldAfter, taken, happeningDoes}
 use Rattle.sockets.specs.History.{WorldOf, History, saidsAlong}
@@ -23,15 +23,11 @@ low-heard : (limit : ℕ) (f : Framer) (b : ℕ) → leb b 0x7F ≡ true → hea
 unfolding hears
 low-heard limit f b low = let h = leb-true b 0x7F low in rw (lt-leb 0xF8 b (omega arith), lt-ltb b 0x80 (omega arith))
 
--- a status that takes two data bytes, on a fresh socket and behind a message of such a status
-module _ (limit status : ℕ) (from : 0x80 ≤ status) (below : status < 0xF0) (two : takesOne status ≡ false) where
-  pub idle-heard : hears limit Idle status ≡ hear Nothing (AwaitTwo status)
-  unfolding hears
-  idle-heard = rw (lt-leb 0xF8 status (omega arith), le-ltb status 0x80 from, lt-ltb status 0xF0 below, two)
-
-  pub again-heard : (before : ℕ) → hears limit (AwaitTwo before) status ≡ hear Nothing (AwaitTwo status)
-  unfolding hears
-  again-heard before = rw (lt-leb 0xF8 status (omega arith), le-ltb status 0x80 from, lt-ltb status 0xF0 below, two)
+-- a status that takes two data bytes, where no SysEx is open
+pub two-awaited : (limit : ℕ) (f : Framer) (status : ℕ) → hearsStatus limit f status ≡ hear Nothing (afterStatus status)
+    → 0x80 ≤ status → status < 0xF0 → takesOne status ≡ false → hears limit f status ≡ hear Nothing (AwaitTwo status)
+unfolding hears
+two-awaited limit f status outside from below two = rw (lt-leb 0xF8 status (omega arith), le-ltb status 0x80 from, outside, lt-ltb status 0xF0 below, two)
 
 itself : {A : Type 0} (s : Socket) (x y : A) → ifSame s s x y ≡ x
 itself S0 x y = refl
