@@ -5,12 +5,13 @@ use Rattle.kinds.specs.declared.Kind.{Kind}
 use Rattle.kinds.specs.Kinds.{sizeOf}
 use Rattle.programs.specs.Memory.{programPlace, editPlace, allSize, partOf, putPart}
 
--- all that the box keeps from call to call, but for what belongs to one socket
+-- all that the box keeps from call to call, but for what belongs to one socket: memory, and "a mark" for each program and the edit buffer
 pub record Held : Type 0 where
   pub memory : List ℕ
+  pub marks : List ℕ
 
-abbrev pub heldOf : List ℕ → Held
-heldOf memory = record { memory = memory }
+abbrev pub heldOf : List ℕ → List ℕ → Held
+heldOf memory marks = record { memory = memory; marks = marks }
 
 -- what a dump or a request names: one program, the edit buffer, all programs
 pub data Target : Type 0 where
@@ -32,6 +33,10 @@ countFor kind All = allSize kind
 abbrev pub bytesIn : Kind → ℕ → Target → Held → List ℕ
 bytesIn kind player t held = partOf (placeFor kind player t) (countFor kind t) (held .memory)
 
--- what a store does: what is named becomes these bytes, and nothing else changes
+-- other bytes in place of what is named: nothing else changes, and no mark does
+abbrev pub putIn : Kind → ℕ → Target → List ℕ → Held → Held
+putIn kind player t bytes held = heldOf (putPart (placeFor kind player t) (countFor kind t) bytes (held .memory)) (held .marks)
+
+-- what a dump does: what is named becomes these bytes
 abbrev pub storeIn : Kind → ℕ → Target → List ℕ → Held → Held
-storeIn kind player t bytes held = heldOf (putPart (placeFor kind player t) (countFor kind t) bytes (held .memory))
+storeIn kind player t bytes held = putIn kind player t bytes held

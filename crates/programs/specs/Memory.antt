@@ -27,6 +27,10 @@ allSize kind = programCount * sizeOf kind
 abbrev pub memorySize : Kind → ℕ
 memorySize kind = (programCount + 1) * sizeOf kind
 
+-- "Each program and the edit buffer now carry a mark": in the order of memory
+abbrev pub markCount : ℕ
+markCount = programCount + 1
+
 -- `count` bytes from a place on, and memory with others in their place
 abbrev pub partOf : ℕ → ℕ → List ℕ → List ℕ
 partOf place count memory = take count (drop place memory)

@@ -6,6 +6,9 @@ use kinds::Kind;
 
 pub const PROGRAMS: usize = 36;
 
+// A mark for each program, and for the edit buffer.
+pub const MARKS: usize = PROGRAMS + 1;
+
 // The bytes of memory: the programs, and the edit buffer behind them.
 pub fn memory_size(kind: Kind) -> usize
     ensures { λ r. ⌜ r ≡ memorySize kind ⌝ }

@@ -8,7 +8,7 @@ use Rattle.ground.specs.Calls as any
 use Rattle.ground.specs.Calls.{outcome, left, leaves}
 use Rattle.halves.specs.HalfBytes.{join}
 use Rattle.kinds.specs.declared.Kind.{Kind}
-use Rattle.programs.specs.Memory.{memorySize}
+use Rattle.programs.specs.Memory.{memorySize, markCount}
 use Rattle.programs.specs.Held.{Held, Target, One, Edit, All, bytesIn, storeIn}
 use Rattle.sysex.specs.declared.Settings.{Settings}
 use Rattle.sysex.specs.declared.Order.{Order}
@@ -55,18 +55,21 @@ orderDoes kind settings player (order.Refused check) body held = refusing held (
 abbrev pub bodyDoes : Kind → Settings → ℕ → List ℕ → Held → Outcome
 bodyDoes kind settings player body held = orderDoes kind settings player (judgeOf kind settings body) body held
 
--- 30 "a lent buffer too short": memory by its length, what the box holds, and a receive or a reply buffer
+-- 30 "a lent buffer too short": memory by its length, what the box holds, and a receive or a reply buffer; "too few marks lent is 30"
 abbrev pub memoryTest : Kind → ℕ → Test ℕ
 memoryTest kind count = test 30 (leb (memorySize kind) count)
 
 abbrev pub heldTest : Kind → Held → Test ℕ
 heldTest kind held = memoryTest kind (length (held .memory))
 
+abbrev pub marksTest : Held → Test ℕ
+marksTest held = test 30 (leb markCount (length (held .marks)))
+
 abbrev pub bufferTest : Kind → List ℕ → Test ℕ
 bufferTest kind buffer = test 30 (leb (longest kind) (length buffer))
 
 abbrev pub carryTests : Kind → Held → List ℕ → List (Test ℕ)
-carryTests kind held reply = heldTest kind held ∷ bufferTest kind reply ∷ []
+carryTests kind held reply = heldTest kind held ∷ marksTest held ∷ bufferTest kind reply ∷ []
 
 unfoldable pub carryOf : Kind → Settings → ℕ → List ℕ → Held → List ℕ → Left
 carryOf kind settings player body held reply =

@@ -32,5 +32,6 @@ Fits kind order.StoreAll body = HasData all (allSize kind) body
 Fits kind (order.Refused check) body = Unit {0}
 
 -- the dump of a part of memory, sent
-abbrev pub partSent : Kind → ℕ → List ℕ → ℕ → ℕ → List ℕ → List ℕ → Left
-partSent kind type pp place count memory reply = leaves (sending (ended (dumpStart kind type pp ++ split (partOf place count memory))) (heldOf memory)) reply
+abbrev pub partSent : Kind → ℕ → List ℕ → ℕ → ℕ → List ℕ → List ℕ → List ℕ → Left
+partSent kind type pp place count memory marks reply =
+    leaves (sending (ended (dumpStart kind type pp ++ split (partOf place count memory))) (heldOf memory marks)) reply

@@ -1,6 +1,7 @@
 // What an order does to what the box holds and to the reply buffer.
 ghost use mathlib.Core.Path.{_≡_};
-ghost use Prim.Native.Nat.{_≤_, _+_, _*_};
+ghost use mathlib.Core.List.{List};
+ghost use Prim.Native.Nat.{ℕ, _≤_, _+_, _*_};
 ghost use lib.ListN.{length, drop};
 ghost use Rattle.ground.specs.Calls.{left, leaves};
 ghost use Rattle.halves.specs.HalfBytes.{join};
@@ -16,6 +17,7 @@ use crate::answering;
 use crate::judging;
 use crate::numbers;
 use kinds::Kind;
+use programs::MARKS;
 use programs::PROGRAMS;
 
 // Does what a player's body asks for.
@@ -25,18 +27,22 @@ pub fn carry_out(
     kind: Kind,
     settings: Settings,
     memory: &mut [u8],
+    marks: &mut [u8],
     reply: &mut [u8],
 ) -> Answer
-    ensures { λ r. ⌜ left r (heldOf (now (memory .exit))) (now (reply .exit)) ≡ carryOf kind settings player (now (body .entry)) (heldOf (now (memory .entry))) (now (reply .entry)) ⌝ }
+    ensures { λ r. ⌜ left r (heldOf (now (memory .exit)) (now (marks .exit))) (now (reply .exit)) ≡ carryOf kind settings player (now (body .entry)) (heldOf (now (memory .entry)) (now (marks .entry))) (now (reply .entry)) ⌝ }
 {
     if memory.len() < programs::memory_size(kind) {
+        return numbers::refused(30);
+    }
+    if marks.len() < MARKS {
         return numbers::refused(30);
     }
     if reply.len() < judging::longest(kind) {
         return numbers::refused(30);
     }
     let order = judging::judge(body, kind, settings);
-    act(order, body, player, kind, settings, memory, reply)
+    act(order, body, player, kind, settings, memory, marks, reply)
 }
 
 fn act(
@@ -46,11 +52,12 @@ fn act(
     kind: Kind,
     settings: Settings,
     memory: &mut [u8],
+    marks: &mut [u8],
     reply: &mut [u8],
 ) -> Answer
     requires { ⌜ (memorySize kind ≤ length (now memory)) × (longest kind ≤ length (now reply)) ⌝ }
     requires { ⌜ Fits kind order (now body) ⌝ }
-    ensures { λ r. ⌜ left r (heldOf (now (memory .exit))) (now (reply .exit)) ≡ leaves (orderDoes kind settings player order (now (body .entry)) (heldOf (now (memory .entry)))) (now (reply .entry)) ⌝ }
+    ensures { λ r. ⌜ left r (heldOf (now (memory .exit)) (now (marks .exit))) (now (reply .exit)) ≡ leaves (orderDoes kind settings player order (now (body .entry)) (heldOf (now (memory .entry)) (now (marks .entry)))) (now (reply .entry)) ⌝ }
 {
     let edit = programs::edit_place(kind, player);
     let size = kinds::size(kind) as usize;
@@ -92,7 +99,7 @@ fn answer(
     requires { ⌜ (length (now pp) ≤ 1) × (count ≤ programCount * 255) ⌝ }
     requires { ⌜ place + count ≤ length (now memory) ⌝ }
     requires { ⌜ 2 * count + (9 + length (now pp)) ≤ length (now reply) ⌝ }
-    ensures { λ r. ⌜ left r (heldOf (now (memory .entry))) (now (reply .exit)) ≡ partSent kind typed (now (pp .entry)) place count (now (memory .entry)) (now (reply .entry)) ⌝ }
+    ensures { λ r. ⌜ ((marks : List ℕ) → left r (heldOf (now (memory .entry)) marks) (now (reply .exit)) ≡ partSent kind typed (now (pp .entry)) place count (now (memory .entry)) marks (now (reply .entry))) ⌝ }
 {
     let end = place + count;
     let length = answering::send(typed, pp, &memory[place..end], kind, reply);

@@ -18,10 +18,10 @@ cast-t16 c =
     omega (arith, dump-length (a .kind) (a .typed) (now (a .pp)) part, length-take (a .place + a .count - a .place) (drop (a .place) (now (a .memory))))
 
 returns : tie.Need-returns
-returns c =
+returns c marks =
     let a = c .before .before .before .before .before .before .before .before .args in
     let s = c .before .before .send in
-    answered-by (a .kind) (a .typed) (a .place) (a .count) _ (now (a .pp)) (now (a .memory)) (now (a .reply)) _ _ (s .ensures .0) (s .ensures .1)
+    answered-by (a .kind) (a .typed) (a .place) (a .count) _ (now (a .pp)) (now (a .memory)) marks (now (a .reply)) _ _ (s .ensures .0) (s .ensures .1)
     (ap (λ (k : ℕ). take k (drop (a .place) (now (a .memory)))) (add-sub-cancel-left (a .place) (a .count)))
 
 pub answer-spec : {M : Type 1} → statement M
