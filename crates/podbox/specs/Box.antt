@@ -21,8 +21,8 @@ use Rattle.sysex.specs.declared.Answer.{Answer}
 use Rattle.sysex.specs.declared.Answer.the-variants.{Taken, Cut}
 use Rattle.sysex.specs.Forms.{longest}
 use Rattle.sysex.specs.Numbers.{refused, answerNumber, answerLength}
-use Rattle.sysex.specs.Carrying.{Outcome, Left, refusing, memoryTest, heldTest, bufferTest}
-use Rattle.podbox.specs.Settings.{isValid}
+use Rattle.sysex.specs.Carrying.{Outcome, Left, refusing, memoryTest, heldTest, marksTest, bufferTest}
+use Rattle.podbox.specs.Settings.{isValid, areMarks}
 use Rattle.podbox.specs.declared.Move.{Move}
 use Rattle.podbox.specs.Messages.{controllerDoes, messageDoes}
 use Rattle.podbox.specs.Whole.{handedDoes}
@@ -40,22 +40,26 @@ kindTest kindNumber = test 32 (isKind kindNumber)
 abbrev pub settingsTest : Settings → Test ℕ
 settingsTest settings = test 32 (isValid settings)
 
--- 32 "receiver not sound, or a setting out of its range"
-abbrev pub readyTests : Kind → Settings → Receiver → List (Test ℕ)
-readyTests kind settings receiver = test 32 (soundOf (limit kind) receiver) ∷ settingsTest settings ∷ []
+-- 32 "a mark neither 1 nor 0", of the box's own
+abbrev pub markedTest : Held → Test ℕ
+markedTest held = test 32 (areMarks (held .marks))
+
+-- 32 "receiver not sound, or a setting out of its range", or a mark
+abbrev pub readyTests : Kind → Settings → Receiver → Held → List (Test ℕ)
+readyTests kind settings receiver held = test 32 (soundOf (limit kind) receiver) ∷ settingsTest settings ∷ markedTest held ∷ []
 
 -- "A call tests 30, 31, 32 in that order": 31 "socket not 0 or 1"
 abbrev pub lentTests : Kind → Settings → ℕ → Lent Held → List (Test ℕ)
 lentTests kind settings socket entry =
-    heldTest kind (entry .held) ∷ bufferTest kind (entry .receive) ∷ bufferTest kind (entry .reply)
-    ∷ test 31 (leb socket 1) ∷ readyTests kind settings (entry .receiver)
+    heldTest kind (entry .held) ∷ marksTest (entry .held) ∷ bufferTest kind (entry .receive) ∷ bufferTest kind (entry .reply)
+    ∷ test 31 (leb socket 1) ∷ readyTests kind settings (entry .receiver) (entry .held)
 
 abbrev pub takeTests : ℕ → Settings → ℕ → Lent Held → List (Test ℕ)
 takeTests kindNumber settings socket entry = kindTest kindNumber ∷ lentTests (kindOf kindNumber) settings socket entry
 
--- a whole message "has no socket and no receiver: 30 for the memory or the reply buffer, 32 for a setting"
+-- a whole message "has no socket and no receiver: 30 for the memory or the reply buffer, 32 for a setting"; and for the marks, as above
 abbrev pub handedTests : Kind → Settings → Held → List ℕ → List (Test ℕ)
-handedTests kind settings held reply = heldTest kind held ∷ bufferTest kind reply ∷ settingsTest settings ∷ []
+handedTests kind settings held reply = heldTest kind held ∷ marksTest held ∷ bufferTest kind reply ∷ settingsTest settings ∷ markedTest held ∷ []
 
 abbrev pub wholeTests : ℕ → Settings → Held → List ℕ → List (Test ℕ)
 wholeTests kindNumber settings held reply = kindTest kindNumber ∷ handedTests (kindOf kindNumber) settings held reply

@@ -8,7 +8,7 @@ use Rattle.ground.specs.Calls.{outcome}
 use Rattle.kinds.specs.declared.Kind.{Kind}
 use Rattle.kinds.specs.Kinds.{takesProgramChange}
 use Rattle.programs.specs.Memory.{programCount}
-use Rattle.programs.specs.Held.{Held, One, Edit, bytesIn, storeIn}
+use Rattle.programs.specs.Held.{Held, One, Edit, bytesIn, putIn}
 use Rattle.controls.specs.declared.Change.{Change}
 use Rattle.controls.specs.declared.Change.the-variants as change
 use Rattle.controls.specs.Applying.{applyOf}
@@ -41,15 +41,15 @@ abbrev pub changeAnswer : Change → Answer
 changeAnswer change.Applied = Applied
 changeAnswer (change.Refused number) = refused number
 
--- a controller acts on "its bytes of the edit buffer", the sender's
+-- a controller acts on "its bytes of the edit buffer", the sender's; "A controller leaves the mark as it was"
 abbrev pub controllerDoes : Kind → ℕ → ℕ → ℕ → Held → Outcome
 controllerDoes kind player controller value held =
     let done = applyOf kind controller value (bytesIn kind player Edit held) in
-    outcome (changeAnswer (done .answer)) (storeIn kind player Edit (done .edit) held) []
+    outcome (changeAnswer (done .answer)) (putIn kind player Edit (done .edit) held) []
 
 -- a program change "copies program 0 to 35 into the edit buffer", the sender's, "and returns 1"
 abbrev pub programChangeDoes : Kind → ℕ → ℕ → Held → Outcome
-programChangeDoes kind player number held = outcome Stored (storeIn kind player Edit (bytesIn kind player (One (number - 1)) held) held) []
+programChangeDoes kind player number held = outcome Stored (putIn kind player Edit (bytesIn kind player (One (number - 1)) held) held) []
 
 unfoldable pub channelDoes : Kind → Settings → ℕ → ℕ → ℕ → ℕ → Held → Outcome
 channelDoes kind settings player status first second held =

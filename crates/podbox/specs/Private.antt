@@ -4,7 +4,7 @@ use mathlib.Core.List.{List}
 use lib.ListN.{length}
 use Rattle.ground.specs.Tests.{tested}
 use Rattle.kinds.specs.declared.Kind.{Kind}
-use Rattle.programs.specs.Memory.{memorySize}
+use Rattle.programs.specs.Memory.{memorySize, markCount}
 use Rattle.programs.specs.Held.{Held}
 use Rattle.framing.specs.declared.Event.{Event}
 use Rattle.framing.specs.declared.Event.the-variants as event
@@ -21,6 +21,9 @@ use Rattle.podbox.specs.Box.{Took, limit, readyTests, lentTests, handedT
 -- as much is lent as a call asks
 abbrev pub HoldsMemory : Kind → List ℕ → Type 0
 HoldsMemory kind memory = memorySize kind ≤ length memory
+
+abbrev pub HoldsMarks : List ℕ → Type 0
+HoldsMarks marks = markCount ≤ length marks
 
 abbrev pub HasRoom : Kind → List ℕ → Type 0
 HasRoom kind buffer = longest kind ≤ length buffer
@@ -42,7 +45,7 @@ kindRules kind settings = rulesWith (lentTests kind settings) (λ given. handedT
 -- the last tests of a byte call, and the byte
 unfoldable pub readyDoes : Kind → Settings → ℕ → ℕ → Lent Held → Took
 readyDoes kind settings player byte entry =
-    tested (readyTests kind settings (entry .receiver))
+    tested (readyTests kind settings (entry .receiver) (entry .held))
     (λ number. took (entry .receiver) (plainAnswer number) (entry .held) (entry .receive) (entry .reply))
     (stepDoes (kindRules kind settings) (socketOf player) byte entry (stepOf (limit kind) (entry .receiver) byte))
 

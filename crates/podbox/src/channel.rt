@@ -1,7 +1,7 @@
 // A finished channel message: 20, 21, then a controller, or a program, into the edit buffer of its sender.
 ghost use mathlib.Core.Path.{_≡_};
-ghost use mathlib.Core.List.{[]};
-ghost use Prim.Native.Nat.{_≤_, _+_};
+ghost use mathlib.Core.List.{List, []};
+ghost use Prim.Native.Nat.{ℕ, _≤_, _+_};
 ghost use lib.ListN.{length};
 ghost use Rattle.ground.specs.Calls.{outcome};
 ghost use Rattle.programs.specs.Memory.{programCount, partOf, putPart};
@@ -24,7 +24,7 @@ pub(crate) fn channel(
     memory: &mut [u8],
 ) -> Answer
     requires { ⌜ HoldsMemory kind (now memory) ⌝ }
-    ensures { λ r. ⌜ outcome r (heldOf (now (memory .exit))) [] ≡ channelDoes kind settings player status first second (heldOf (now (memory .entry))) ⌝ }
+    ensures { λ r. ⌜ ((marks : List ℕ) → outcome r (heldOf (now (memory .exit)) marks) [] ≡ channelDoes kind settings player status first second (heldOf (now (memory .entry)) marks)) ⌝ }
 {
     if is_heard(settings, status) {
         if is_controller(status) {
@@ -81,7 +81,7 @@ pub(crate) fn controller(
     memory: &mut [u8],
 ) -> Answer
     requires { ⌜ HoldsMemory kind (now memory) ⌝ }
-    ensures { λ r. ⌜ outcome r (heldOf (now (memory .exit))) [] ≡ controllerDoes kind player number value (heldOf (now (memory .entry))) ⌝ }
+    ensures { λ r. ⌜ ((marks : List ℕ) → outcome r (heldOf (now (memory .exit)) marks) [] ≡ controllerDoes kind player number value (heldOf (now (memory .entry)) marks)) ⌝ }
 {
     let place = programs::edit_place(kind, player);
     let end = place + kinds::size(kind) as usize;
@@ -102,7 +102,7 @@ fn change_answer(change: Change) -> Answer
 fn change_program(number: u8, player: u32, kind: Kind, memory: &mut [u8]) -> Answer
     requires { ⌜ (1 ≤ number) × (number ≤ programCount) ⌝ }
     requires { ⌜ HoldsMemory kind (now memory) ⌝ }
-    ensures { λ r. ⌜ outcome r (heldOf (now (memory .exit))) [] ≡ programChangeDoes kind player number (heldOf (now (memory .entry))) ⌝ }
+    ensures { λ r. ⌜ ((marks : List ℕ) → outcome r (heldOf (now (memory .exit)) marks) [] ≡ programChangeDoes kind player number (heldOf (now (memory .entry)) marks)) ⌝ }
 {
     let size = kinds::size(kind) as usize;
     let edit = programs::edit_place(kind, player);

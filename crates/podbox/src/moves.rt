@@ -1,6 +1,7 @@
 // A list of moves: whether it is taken, and one move of it.
 ghost use mathlib.Core.Path.{_≡_};
-ghost use mathlib.Core.List.{[]};
+ghost use mathlib.Core.List.{List, []};
+ghost use Prim.Native.Nat.{ℕ};
 ghost use Rattle.ground.specs.Calls.{outcome};
 ghost use Rattle.programs.specs.Held.{heldOf};
 ghost use Rattle.podbox.specs.Box.{listAnswer, moveDoes};
@@ -52,7 +53,7 @@ fn kind_answer(kind: Kind, settings: Settings, memory: usize) -> Answer
 
 // A move into a player's edit buffer.
 pub fn make_move(one: Move, player: u32, kind: Kind, memory: &mut [u8]) -> Answer
-    ensures { λ r. ⌜ outcome r (heldOf (now (memory .exit))) [] ≡ moveDoes kind player one (heldOf (now (memory .entry))) ⌝ }
+    ensures { λ r. ⌜ ((marks : List ℕ) → outcome r (heldOf (now (memory .exit)) marks) [] ≡ moveDoes kind player one (heldOf (now (memory .entry)) marks)) ⌝ }
 {
     if memory.len() < programs::memory_size(kind) {
         return sysex::refused(30);

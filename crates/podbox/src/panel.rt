@@ -4,10 +4,11 @@ ghost use Rattle.ground.specs.Calls.{left, leaves};
 ghost use Rattle.programs.specs.Held.{heldOf};
 ghost use Rattle.podbox.specs.Whole.{isFramed, handedDoes};
 ghost use Rattle.podbox.specs.Box.{Whole, wholeOf};
-ghost use Rattle.podbox.specs.Private.{HoldsMemory, HasRoom, kindRules};
+ghost use Rattle.podbox.specs.Private.{HoldsMemory, HoldsMarks, HasRoom, kindRules};
 ghost use Rattle.sockets.specs.Promise.{directOf};
 use crate::settings;
 use kinds::Kind;
+use programs::MARKS;
 use sysex::Answer;
 use sysex::Settings;
 
@@ -16,12 +17,13 @@ pub fn whole_message(
     kind: u32,
     settings: Settings,
     memory: &mut [u8],
+    marks: &mut [u8],
     reply: &mut [u8],
 ) -> Answer
-    ensures { λ r. ⌜ left r (heldOf (now (memory .exit))) (now (reply .exit)) ≡ wholeOf kind settings (now (message .entry)) (heldOf (now (memory .entry))) (now (reply .entry)) ⌝ }
+    ensures { λ r. ⌜ left r (heldOf (now (memory .exit)) (now (marks .exit))) (now (reply .exit)) ≡ wholeOf kind settings (now (message .entry)) (heldOf (now (memory .entry)) (now (marks .entry))) (now (reply .entry)) ⌝ }
 {
     if kinds::is_kind(kind) {
-        return handed(message, kinds::kind_of(kind), settings, memory, reply);
+        return handed(message, kinds::kind_of(kind), settings, memory, marks, reply);
     }
     sysex::refused(32)
 }
@@ -32,18 +34,22 @@ fn handed(
     kind: Kind,
     settings: Settings,
     memory: &mut [u8],
+    marks: &mut [u8],
     reply: &mut [u8],
 ) -> Answer
-    ensures { λ r. ⌜ left r (heldOf (now (memory .exit))) (now (reply .exit)) ≡ directOf (kindRules kind settings) (Whole (now (message .entry))) (heldOf (now (memory .entry))) (now (reply .entry)) ⌝ }
+    ensures { λ r. ⌜ left r (heldOf (now (memory .exit)) (now (marks .exit))) (now (reply .exit)) ≡ directOf (kindRules kind settings) (Whole (now (message .entry))) (heldOf (now (memory .entry)) (now (marks .entry))) (now (reply .entry)) ⌝ }
 {
     if memory.len() < programs::memory_size(kind) {
+        return sysex::refused(30);
+    }
+    if marks.len() < MARKS {
         return sysex::refused(30);
     }
     if reply.len() < sysex::longest(kind) {
         return sysex::refused(30);
     }
-    if settings::are_valid(settings) {
-        return framed(message, settings::PANEL, kind, settings, memory, reply);
+    if settings::are_in_range(settings, marks) {
+        return framed(message, settings::PANEL, kind, settings, memory, marks, reply);
     }
     sysex::refused(32)
 }
@@ -55,17 +61,18 @@ fn framed(
     kind: Kind,
     settings: Settings,
     memory: &mut [u8],
+    marks: &mut [u8],
     reply: &mut [u8],
 ) -> Answer
-    requires { ⌜ HoldsMemory kind (now memory) × HasRoom kind (now reply) ⌝ }
-    ensures { λ r. ⌜ left r (heldOf (now (memory .exit))) (now (reply .exit)) ≡ leaves (handedDoes kind settings player (now (message .entry)) (heldOf (now (memory .entry)))) (now (reply .entry)) ⌝ }
+    requires { ⌜ HoldsMemory kind (now memory) × HoldsMarks (now marks) × HasRoom kind (now reply) ⌝ }
+    ensures { λ r. ⌜ left r (heldOf (now (memory .exit)) (now (marks .exit))) (now (reply .exit)) ≡ leaves (handedDoes kind settings player (now (message .entry)) (heldOf (now (memory .entry)) (now (marks .entry)))) (now (reply .entry)) ⌝ }
 {
     if sysex::longest(kind) < message.len() {
         return sysex::refused(10);
     }
     if is_framed(message) {
         let end = message.len() - 1;
-        return sysex::carry_out(&message[..end], player, kind, settings, memory, reply);
+        return sysex::carry_out(&message[..end], player, kind, settings, memory, marks, reply);
     }
     sysex::refused(11)
 }

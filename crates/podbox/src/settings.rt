@@ -1,9 +1,12 @@
 // The lengths that serve a box of any kind, the settings of a fresh one, and whether settings are in range.
 ghost use mathlib.Core.Path.{_≡_};
-ghost use Rattle.podbox.specs.Settings.{isValid};
+ghost use mathlib.Core.Bool.{_&&_};
+ghost use Rattle.podbox.specs.Settings.{isValid, areMarks};
+ghost use Rattle.podbox.specs.Private.{HoldsMarks};
 ghost use Rattle.podbox.specs.Box.{limit};
 use kinds::Kind;
 use kinds::LARGEST;
+use programs::MARKS;
 use programs::PROGRAMS;
 use sysex::Settings;
 
@@ -34,6 +37,17 @@ pub(crate) fn limit(kind: Kind) -> u16
     ensures { λ r. ⌜ r ≡ limit kind ⌝ }
 {
     (sysex::longest(kind) - 1) as u16
+}
+
+// Settings, and the box's own marks, each of them 0 or 1.
+pub(crate) fn are_in_range(settings: Settings, marks: &[u8]) -> bool
+    requires { ⌜ HoldsMarks (now marks) ⌝ }
+    ensures { λ r. ⌜ r ≡ (isValid settings && areMarks (now (marks .entry))) ⌝ }
+{
+    if are_valid(settings) {
+        return halves::all_at_most(&marks[..MARKS], 1);
+    }
+    false
 }
 
 pub(crate) fn are_valid(settings: Settings) -> bool

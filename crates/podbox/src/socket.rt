@@ -1,12 +1,15 @@
 // One byte on one socket.
 ghost use mathlib.Core.Path.{_≡_};
+ghost use mathlib.Core.Bool.{_&&_};
 ghost use Prim.Native.Nat.{_≤_};
 ghost use Rattle.programs.specs.Held.{heldOf};
+ghost use Rattle.framing.specs.Receiver.{soundOf};
 ghost use Rattle.sockets.specs.Box.{took, lent};
 ghost use Rattle.sockets.specs.Promise.{socketOf, stepDoes, byteOf};
 ghost use Rattle.sysex.specs.Numbers.{refused};
+ghost use Rattle.podbox.specs.Settings.{isValid, areMarks};
 ghost use Rattle.podbox.specs.Box.{takeOf};
-ghost use Rattle.podbox.specs.Private.{HoldsMemory, HasRoom, Within, kindRules, readyDoes};
+ghost use Rattle.podbox.specs.Private.{HoldsMemory, HoldsMarks, HasRoom, Within, kindRules, readyDoes};
 use crate::Took;
 use crate::channel;
 use crate::settings;
@@ -14,6 +17,7 @@ use framing::Event;
 use framing::Receiver;
 use framing::Stepped;
 use kinds::Kind;
+use programs::MARKS;
 use sysex::Answer;
 use sysex::Settings;
 
@@ -24,10 +28,11 @@ pub fn take_byte(
     kind: u32,
     settings: Settings,
     memory: &mut [u8],
+    marks: &mut [u8],
     receive: &mut [u8],
     reply: &mut [u8],
 ) -> Took
-    ensures { λ r. ⌜ took (r .receiver) (r .answer) (heldOf (now (memory .exit))) (now (receive .exit)) (now (reply .exit)) ≡ takeOf kind settings socket receiver byte (heldOf (now (memory .entry))) (now (receive .entry)) (now (reply .entry)) ⌝ }
+    ensures { λ r. ⌜ took (r .receiver) (r .answer) (heldOf (now (memory .exit)) (now (marks .exit))) (now (receive .exit)) (now (reply .exit)) ≡ takeOf kind settings socket receiver byte (heldOf (now (memory .entry)) (now (marks .entry))) (now (receive .entry)) (now (reply .entry)) ⌝ }
 {
     if kinds::is_kind(kind) {
         let known = kinds::kind_of(kind);
@@ -38,6 +43,7 @@ pub fn take_byte(
             known,
             settings,
             memory,
+            marks,
             receive,
             reply,
         );
@@ -53,12 +59,16 @@ fn take_lent(
     kind: Kind,
     settings: Settings,
     memory: &mut [u8],
+    marks: &mut [u8],
     receive: &mut [u8],
     reply: &mut [u8],
 ) -> Took
-    ensures { λ r. ⌜ took (r .receiver) (r .answer) (heldOf (now (memory .exit))) (now (receive .exit)) (now (reply .exit)) ≡ byteOf (kindRules kind settings) socket byte (lent receiver (heldOf (now (memory .entry))) (now (receive .entry)) (now (reply .entry))) ⌝ }
+    ensures { λ r. ⌜ took (r .receiver) (r .answer) (heldOf (now (memory .exit)) (now (marks .exit))) (now (receive .exit)) (now (reply .exit)) ≡ byteOf (kindRules kind settings) socket byte (lent receiver (heldOf (now (memory .entry)) (now (marks .entry))) (now (receive .entry)) (now (reply .entry))) ⌝ }
 {
     if memory.len() < programs::memory_size(kind) {
+        return refused(receiver, 30);
+    }
+    if marks.len() < MARKS {
         return refused(receiver, 30);
     }
     let longest = sysex::longest(kind);
@@ -78,6 +88,7 @@ fn take_lent(
         kind,
         settings,
         memory,
+        marks,
         receive,
         reply,
     )
@@ -100,31 +111,40 @@ fn take_ready(
     kind: Kind,
     settings: Settings,
     memory: &mut [u8],
+    marks: &mut [u8],
     receive: &mut [u8],
     reply: &mut [u8],
 ) -> Took
-    requires { ⌜ HoldsMemory kind (now memory) × HasRoom kind (now receive) × HasRoom kind (now reply) ⌝ }
+    requires { ⌜ HoldsMemory kind (now memory) × HoldsMarks (now marks) × HasRoom kind (now receive) × HasRoom kind (now reply) ⌝ }
     requires { ⌜ player ≤ 1 ⌝ }
-    ensures { λ r. ⌜ took (r .receiver) (r .answer) (heldOf (now (memory .exit))) (now (receive .exit)) (now (reply .exit)) ≡ readyDoes kind settings player byte (lent receiver (heldOf (now (memory .entry))) (now (receive .entry)) (now (reply .entry))) ⌝ }
+    ensures { λ r. ⌜ took (r .receiver) (r .answer) (heldOf (now (memory .exit)) (now (marks .exit))) (now (receive .exit)) (now (reply .exit)) ≡ readyDoes kind settings player byte (lent receiver (heldOf (now (memory .entry)) (now (marks .entry))) (now (receive .entry)) (now (reply .entry))) ⌝ }
 {
     let limit = settings::limit(kind);
-    if framing::sound(receiver, limit) {
-        if settings::are_valid(settings) {
-            let stepped = framing::step(receiver, byte, limit);
-            return act(
-                stepped,
-                player,
-                byte,
-                kind,
-                settings,
-                memory,
-                receive,
-                reply,
-            );
-        }
-        return refused(receiver, 32);
+    if is_ready(receiver, limit, settings, marks) {
+        let stepped = framing::step(receiver, byte, limit);
+        return act(
+            stepped,
+            player,
+            byte,
+            kind,
+            settings,
+            memory,
+            marks,
+            receive,
+            reply,
+        );
     }
     refused(receiver, 32)
+}
+
+fn is_ready(receiver: Receiver, limit: u16, settings: Settings, marks: &[u8]) -> bool
+    requires { ⌜ HoldsMarks (now marks) ⌝ }
+    ensures { λ r. ⌜ r ≡ (soundOf limit receiver && (isValid settings && areMarks (now (marks .entry)))) ⌝ }
+{
+    if framing::sound(receiver, limit) {
+        return settings::are_in_range(settings, marks);
+    }
+    false
 }
 
 // What the byte did, carried on to the buffers.
@@ -135,12 +155,13 @@ fn act(
     kind: Kind,
     settings: Settings,
     memory: &mut [u8],
+    marks: &mut [u8],
     receive: &mut [u8],
     reply: &mut [u8],
 ) -> Took
-    requires { ⌜ HoldsMemory kind (now memory) × HasRoom kind (now receive) × HasRoom kind (now reply) ⌝ }
+    requires { ⌜ HoldsMemory kind (now memory) × HoldsMarks (now marks) × HasRoom kind (now receive) × HasRoom kind (now reply) ⌝ }
     requires { ⌜ (player ≤ 1) × Within kind (stepped .event) ⌝ }
-    ensures { λ r. ⌜ took (r .receiver) (r .answer) (heldOf (now (memory .exit))) (now (receive .exit)) (now (reply .exit)) ≡ stepDoes (kindRules kind settings) (socketOf player) byte (lent (stepped .receiver) (heldOf (now (memory .entry))) (now (receive .entry)) (now (reply .entry))) stepped ⌝ }
+    ensures { λ r. ⌜ took (r .receiver) (r .answer) (heldOf (now (memory .exit)) (now (marks .exit))) (now (receive .exit)) (now (reply .exit)) ≡ stepDoes (kindRules kind settings) (socketOf player) byte (lent (stepped .receiver) (heldOf (now (memory .entry)) (now (marks .entry))) (now (receive .entry)) (now (reply .entry))) stepped ⌝ }
 {
     let receiver = stepped.receiver;
     let event = stepped.event;
@@ -175,6 +196,7 @@ fn act(
                 kind,
                 settings,
                 memory,
+                marks,
                 reply,
             );
             Took { receiver, answer }

@@ -28,11 +28,11 @@ copy-requires c κs =
     omega (arith, s .ensures, c .before .edit-place .ensures, k .pre .1)
 
 returns : tie.Need-returns
-returns c =
+returns c marks =
     let a = c .before .before .before .before .before .before .before .args in
     let place = c .before .before .before .before .edit-place .ensures in
     let size = c .before .before .before .before .before .size .ensures in
-    ap (λ (memory : _). outcome Stored (heldOf memory) [])
+    ap (λ (memory : _). outcome Stored (heldOf memory marks) [])
     (c .before .before .copy .ensures
     ∙ (λ i. putPart (place i) (size i) (partOf ((a .number - 1) * size i) (size i) (now (a .memory))) (now (a .memory))))
 

@@ -8,9 +8,9 @@ use Rattle.podbox.proofs.channel.channel.Tie as tie
 
 returns : tie.Need-returns
 unfolding channelDoes
-returns c =
+returns c marks =
     let k = c .before .before .before .before in
-    rw (← k .before .before .before .is-heard .ensures, k .before .before .if1 .taken, ← k .before .is-controller .ensures, k .if2 .taken) (c .before .before .controller .ensures)
+    rw (← k .before .before .before .is-heard .ensures, k .before .before .if1 .taken, ← k .before .is-controller .ensures, k .if2 .taken) (c .before .before .controller .ensures marks)
 
 change-program-requires : tie.Need-change-program-requires
 change-program-requires c κs =
@@ -19,7 +19,7 @@ change-program-requires c κs =
 
 returns-2 : tie.Need-returns-2
 unfolding channelDoes
-returns-2 c =
+returns-2 c marks =
     let k = c .before .before .before .before in
     let h = k .before .before in
     rw (
@@ -29,11 +29,11 @@ returns-2 c =
       h .if2 .left,
       ← k .before .is-program-change .ensures,
       k .if3 .taken,
-    ) (c .before .before .change-program .ensures)
+    ) (c .before .before .change-program .ensures marks)
 
 returns-3 : tie.Need-returns-3
 unfolding channelDoes
-returns-3 c =
+returns-3 c marks =
     let h = c .before .before .before in
     rw (
       ← h .before .before .before .is-heard .ensures,
@@ -47,7 +47,7 @@ returns-3 c =
 
 returns-4 : tie.Need-returns-4
 unfolding channelDoes
-returns-4 c = rw (← c .before .before .is-heard .ensures, c .before .if1 .left, c .refused2 .ensures)
+returns-4 c marks = rw (← c .before .before .is-heard .ensures, c .before .if1 .left, c .refused2 .ensures)
 
 pub channel-spec : {M : Type 1} → statement M
 channel-spec =

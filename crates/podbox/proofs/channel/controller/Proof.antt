@@ -18,25 +18,25 @@ use Rattle.podbox.proofs.channel.controller.Statement.{statement}
 use Rattle.podbox.proofs.channel.controller.Tie as tie
 
 -- the edit buffer from a place on, changed
-abbrev put : List ℕ → ℕ → ℕ → Changed → Outcome
-put memory place count done = outcome (changeAnswer (done .answer)) (heldOf (putPart place (place + count - place) (done .edit) memory)) []
+abbrev put : List ℕ → List ℕ → ℕ → ℕ → Changed → Outcome
+put memory marks place count done = outcome (changeAnswer (done .answer)) (heldOf (putPart place (place + count - place) (done .edit) memory) marks) []
 
 part-apply-end : tie.Need-part-apply-end
 part-apply-end c = omega (arith, c .size .ensures, c .before .edit-place .ensures, c .before .before .before .pre)
 
 returns : tie.Need-returns
-returns c =
+returns c marks =
     let a = c .before .before .before .before .before .before .before .before .args in
     let e = c .before .before .before .before .before .before .edit-place in
     let s = c .before .before .before .before .before .size in
     let place = e .ensures in
     let count = s .ensures in
     rw (c .change-answer .ensures)
-    (ap (put (now (a .memory)) (e .result) (s .result)) (c .before .before .before .apply .ensures)
-    ∙ (λ i. put (now (a .memory)) (place i) (count i)
+    (ap (put (now (a .memory)) marks (e .result) (s .result)) (c .before .before .before .apply .ensures)
+    ∙ (λ i. put (now (a .memory)) marks (place i) (count i)
     (applyOf (a .kind) (a .number) (a .value) (take (place i + count i - place i) (drop (place i) (now (a .memory))))))
     ∙ ap (λ (n : ℕ). outcome (changeAnswer (applyOf (a .kind) (a .number) (a .value) (take n (drop (editPlace (a .kind) (a .player)) (now (a .memory)))) .answer))
-    (heldOf (putPart (editPlace (a .kind) (a .player)) n (applyOf (a .kind) (a .number) (a .value) (take n (drop (editPlace (a .kind) (a .player)) (now (a .memory)))) .edit) (now (a .memory)))) [])
+    (heldOf (putPart (editPlace (a .kind) (a .player)) n (applyOf (a .kind) (a .number) (a .value) (take n (drop (editPlace (a .kind) (a .player)) (now (a .memory)))) .edit) (now (a .memory))) marks) [])
     (add-sub-cancel-left (editPlace (a .kind) (a .player)) (sizeOf (a .kind))))
 
 pub controller-spec : {M : Type 1} → statement M

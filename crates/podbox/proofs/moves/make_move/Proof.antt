@@ -9,7 +9,7 @@ use Rattle.podbox.proofs.moves.make_move.Tie as tie
 
 returns : tie.Need-returns
 unfolding moveDoes
-returns c =
+returns c marks =
     let short = rw (c .before .before .memory-size .ensures) at (c .before .if1 .taken) in
     search (tests, short, c .refused .ensures)
 
@@ -20,10 +20,10 @@ controller-requires c κs =
 
 returns-2 : tie.Need-returns-2
 unfolding moveDoes
-returns-2 c =
+returns-2 c marks =
     let k = c .before .before .before .before in
     let holds = rw (k .before .memory-size .ensures) at (k .if1 .left) in
-    rw (le-leb _ _ holds) (c .before .before .controller .ensures)
+    rw (le-leb _ _ holds) (c .before .before .controller .ensures marks)
 
 pub make-move-spec : {M : Type 1} → statement M
 make-move-spec =

@@ -13,31 +13,29 @@ use borrow.Author.Needs.{needs}
 use Rattle.podbox.proofs.panel.framed.Statement.{statement}
 use Rattle.podbox.proofs.panel.framed.Tie as tie
 
-sub-end : tie.Need-sub-end
-sub-end c = let f = Frames.framed (now (c .before .before .before .before .before .before .before .args .message)) (sym (c .before .is-framed .ensures) ∙ c .if2 .taken) in omega (arith, f .long)
-
-slice-aggregate-carry-out : tie.Need-slice-aggregate-carry-out
-slice-aggregate-carry-out c = simp length-take (omega arith)
-
 returns : tie.Need-returns
 unfolding messageDoes
 returns c =
     let over = rw (c .before .before .longest .ensures) at (c .before .if1 .taken) in
     search (tests, over, handed-does, c .refused .ensures)
 
+sub-end : tie.Need-sub-end
+sub-end c = let f = Frames.framed (now (c .before .before .before .before .before .before .before .before .args .message)) (sym (c .before .is-framed .ensures) ∙ c .if2 .taken) in omega (arith, f .long)
+
+slice-aggregate-carry-out : tie.Need-slice-aggregate-carry-out
+slice-aggregate-carry-out c = simp length-take (omega arith)
+
 returns-2 : tie.Need-returns-2
 unfolding messageDoes
 returns-2 c =
-    let k = c .before .before .before .before .before .before .before .before .before .before in
-    let within = rw (k .before .longest .ensures) at (k .if1 .left) in
-    rw (handed-does _ _ _ _ _, le-ltb _ _ within, ← c .before .before .before .before .before .before .before .before .before .is-framed .ensures, c .before .before .before .before .before .before .before .before .if2 .taken)
-    (c .before .before .before .before .carry-out .ensures ∙ carry-long _ _ _ _ _ _ (omega arith) (omega arith))
+    let within = rw (c .before .before .before .before .before .before .before .before .before .before .before .before .before .before .longest .ensures) at (c .before .before .before .before .before .before .before .before .before .before .before .before .before .if1 .left) in
+    rw (handed-does _ _ _ _ _, le-ltb _ _ within, ← c .before .before .before .before .before .before .before .before .before .before .before .before .is-framed .ensures, c .before .before .before .before .before .before .before .before .before .before .before .if2 .taken)
+    (c .before .before .before .before .before .before .carry-out .ensures ∙ carry-long _ _ _ _ _ _ (omega arith) (omega arith) (omega arith))
 
 returns-3 : tie.Need-returns-3
 unfolding messageDoes
 returns-3 c =
-    let k = c .before .before .before in
-    let within = rw (k .before .longest .ensures) at (k .if1 .left) in
+    let within = rw (c .before .before .before .before .longest .ensures) at (c .before .before .before .if1 .left) in
     search (tests, within, handed-does, ← c .before .before .is-framed .ensures, c .before .if2 .left, c .refused2 .ensures)
 
 pub framed-spec : {M : Type 1} → statement M
@@ -52,6 +50,7 @@ framed-spec =
     sub-end
     slice-aggregate-carry-out
     (λ c κs. search needs)
+    (λ c. search needs)
     (λ c. search needs)
     (λ c. search needs)
     returns-2

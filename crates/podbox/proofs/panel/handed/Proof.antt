@@ -1,7 +1,7 @@
 -- The tests are those of `handedTests`, in its order.
 use borrow.Author.Tests.{le-leb}
 use native.Mathlib.Omega.{arith}
-use Rattle.ground.proofs.Tests.{tests}
+use Rattle.ground.proofs.Tests.{tests, cond-both}
 use Rattle.sockets.specs.Promise.{directOf}
 use borrow.Author.Needs.{needs}
 use Rattle.podbox.proofs.panel.handed.Statement.{statement}
@@ -16,33 +16,37 @@ returns c =
 returns-2 : tie.Need-returns-2
 unfolding directOf
 returns-2 c =
-    let k = c .before .before .before in
-    let holds = rw (k .before .memory-size .ensures) at (k .if1 .left) in
-    let short = rw (c .before .before .longest .ensures) at (c .before .if2 .taken) in
-    search (tests, holds, short, c .refused2 .ensures)
-
-framed-requires : tie.Need-framed-requires
-framed-requires c κs =
-    let k = c .before .before .before .before in
-    let long = rw (k .before .longest .ensures) at (k .if2 .left) in
-    let holds = rw (k .before .before .before .memory-size .ensures) at (k .before .before .if1 .left) in
-    (omega arith, omega arith)
+    let holds = rw (c .before .before .before .memory-size .ensures) at (c .before .before .if1 .left) in
+    search (tests, holds, c .refused2 .ensures)
 
 returns-3 : tie.Need-returns-3
 unfolding directOf
 returns-3 c =
-    let k = c .before .before .before .before .before .before .before .before .before in
-    let long = rw (k .before .longest .ensures) at (k .if2 .left) in
-    let holds = rw (k .before .before .before .memory-size .ensures) at (k .before .before .if1 .left) in
-    rw (le-leb _ _ holds, le-leb _ _ long, ← c .before .before .before .before .before .before .before .before .are-valid .ensures, c .before .before .before .before .before .before .before .if3 .taken) (c .before .before .before .before .framed .ensures)
+    let holds = rw (c .before .before .before .before .before .memory-size .ensures) at (c .before .before .before .before .if1 .left) in
+    let short = rw (c .before .before .longest .ensures) at (c .before .if3 .taken) in
+    search (tests, holds, short, c .refused3 .ensures)
+
+framed-requires : tie.Need-framed-requires
+framed-requires c κs =
+    let long = rw (c .before .before .before .before .before .before .before .longest .ensures) at (c .before .before .before .before .before .before .if3 .left) in
+    let holds = rw (c .before .before .before .before .before .before .before .before .before .before .memory-size .ensures) at (c .before .before .before .before .before .before .before .before .before .if1 .left) in
+    (omega arith, omega arith, omega arith)
 
 returns-4 : tie.Need-returns-4
 unfolding directOf
 returns-4 c =
-    let k = c .before .before .before in
-    let long = rw (k .before .longest .ensures) at (k .if2 .left) in
-    let holds = rw (k .before .before .before .memory-size .ensures) at (k .before .before .if1 .left) in
-    search (tests, holds, long, ← c .before .before .are-valid .ensures, c .before .if3 .left, c .refused3 .ensures)
+    let long = rw (c .before .before .before .before .before .before .before .before .before .before .before .before .before .before .longest .ensures) at (c .before .before .before .before .before .before .before .before .before .before .before .before .before .if3 .left) in
+    let marked = c .before .before .before .before .before .before .before .before .before .before .before .before .before .before .before .if2 .left in
+    let holds = rw (c .before .before .before .before .before .before .before .before .before .before .before .before .before .before .before .before .before .memory-size .ensures) at (c .before .before .before .before .before .before .before .before .before .before .before .before .before .before .before .before .if1 .left) in
+    rw (le-leb _ _ holds, le-leb _ _ marked, le-leb _ _ long, cond-both, ← c .before .before .before .before .before .before .before .before .before .before .before .are-in-range .ensures, c .before .before .before .before .before .before .before .before .before .before .if4 .taken) (c .before .before .before .before .before .before .framed .ensures)
+
+returns-5 : tie.Need-returns-5
+unfolding directOf
+returns-5 c =
+    let long = rw (c .before .before .before .before .before .longest .ensures) at (c .before .before .before .before .if3 .left) in
+    let marked = c .before .before .before .before .before .before .if2 .left in
+    let holds = rw (c .before .before .before .before .before .before .before .before .memory-size .ensures) at (c .before .before .before .before .before .before .before .if1 .left) in
+    rw (le-leb _ _ holds, le-leb _ _ marked, le-leb _ _ long, cond-both, ← c .before .before .are-in-range .ensures, c .before .if4 .left, c .refused4 .ensures)
 
 pub handed-spec : {M : Type 1} → statement M
 handed-spec =
@@ -52,12 +56,16 @@ handed-spec =
     (λ c κs. search needs)
     returns
     (λ c κs. search needs)
-    (λ c κs. search needs)
     returns-2
+    (λ c κs. search needs)
+    (λ c κs. search needs)
+    returns-3
     (λ c κs. search needs)
     framed-requires
     (λ c. search needs)
     (λ c. search needs)
-    returns-3
+    (λ c. search needs)
+    returns-4
     (λ c κs. search needs)
-    returns-4)
+    (λ c. search needs)
+    returns-5)

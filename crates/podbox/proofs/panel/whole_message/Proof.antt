@@ -7,7 +7,7 @@ use Rattle.podbox.proofs.panel.whole_message.Tie as tie
 returns : tie.Need-returns
 unfolding directOf
 returns c =
-    rw (← c .before .before .before .before .before .before .before .before .before .is-kind .ensures, c .before .before .before .before .before .before .before .before .if1 .taken, ← c .before .before .before .before .before .before .before .kind-of .ensures) (c .before .before .before .before .handed .ensures)
+    rw (← c .before .before .before .before .before .before .before .before .before .before .before .before .is-kind .ensures, c .before .before .before .before .before .before .before .before .before .before .before .if1 .taken, ← c .before .before .before .before .before .before .before .before .before .before .kind-of .ensures) (c .before .before .before .before .before .before .handed .ensures)
 
 returns-2 : tie.Need-returns-2
 unfolding directOf
@@ -20,6 +20,7 @@ whole-message-spec =
     (λ c κs. search needs)
     (λ c κs. search needs)
     (λ c κs. search needs)
+    (λ c. search needs)
     (λ c. search needs)
     (λ c. search needs)
     returns

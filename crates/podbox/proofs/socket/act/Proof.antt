@@ -16,15 +16,15 @@ use Rattle.podbox.proofs.socket.act.Tie as tie
 
 slice-write-receive : tie.Need-slice-write-receive
 unfolding stepDoes messageDoes
-slice-write-receive c = let w = rw (c .before .event .given .1) at (c .before .before .before .before .before .before .before .pre .1 .1) in omega arith
+slice-write-receive c = let w = rw (c .before .event .given .1) at (c .before .before .before .before .before .before .before .before .pre .1 .1) in omega arith
 
 slice-reshare-prefix-carry-out : tie.Need-slice-reshare-prefix-carry-out
 unfolding stepDoes messageDoes
-slice-reshare-prefix-carry-out c = let w = rw (c .before .event2 .given .1) at (c .before .before .before .before .before .before .before .pre .1 .1) in omega arith
+slice-reshare-prefix-carry-out c = let w = rw (c .before .event2 .given .1) at (c .before .before .before .before .before .before .before .before .pre .1 .1) in omega arith
 
 slice-aggregate-carry-out : tie.Need-slice-aggregate-carry-out
 unfolding stepDoes messageDoes
-slice-aggregate-carry-out c = let w = rw (c .before .before .event2 .given .1) at (c .before .before .before .before .before .before .before .before .pre .1 .1) in simp length-take (omega arith)
+slice-aggregate-carry-out c = let w = rw (c .before .before .event2 .given .1) at (c .before .before .before .before .before .before .before .before .before .pre .1 .1) in simp length-take (omega arith)
 
 returns : tie.Need-returns
 unfolding stepDoes messageDoes
@@ -49,18 +49,16 @@ returns-5 c = rw (c .before .enum-told4 .given .1, c .refused .ensures .0, c .re
 returns-6 : tie.Need-returns-6
 unfolding stepDoes messageDoes
 returns-6 c =
-    let s = c .before .before .before .before .before .before .before .before .before .before .before .before .before .before .before in
-    let a = s .args in
-    rw (c .before .before .before .before .before .before .before .before .before .event2 .given .1, sender (a .player) (s .pre .1 .0))
-    (ap (λ (l : Left). took (a .stepped .receiver) (l .answer) (l .held) (now (a .receive)) (l .reply)) (c .before .before .before .before .carry-out .ensures ∙ carry-long _ _ _ _ _ _ (omega arith) (omega arith)))
+    let a = c .before .before .before .before .before .before .before .before .before .before .before .before .before .before .before .before .before .before .before .args in
+    rw (c .before .before .before .before .before .before .before .before .before .before .before .before .event2 .given .1, sender (a .player) (c .before .before .before .before .before .before .before .before .before .before .before .before .before .before .before .before .before .before .before .pre .1 .0))
+    (ap (λ (l : Left). took (a .stepped .receiver) (l .answer) (l .held) (now (a .receive)) (l .reply)) (c .before .before .before .before .before .before .carry-out .ensures ∙ carry-long _ _ _ _ _ _ (omega arith) (omega arith) (omega arith)))
 
 returns-7 : tie.Need-returns-7
 unfolding stepDoes messageDoes
 returns-7 c =
-    let s = c .before .before .before .before .before .before .before .before .before .before .before in
-    let a = s .args in
-    rw (c .before .before .before .before .before .event3 .given .1, sender (a .player) (s .pre .1 .0))
-    (ap (λ (o : Outcome). took (a .stepped .receiver) (o .answer) (o .held) (now (a .receive)) (written (o .sent) (now (a .reply)))) (c .before .before .channel .ensures))
+    let a = c .before .before .before .before .before .before .before .before .before .before .before .before .args in
+    rw (c .before .before .before .before .before .event3 .given .1, sender (a .player) (c .before .before .before .before .before .before .before .before .before .before .before .before .pre .1 .0))
+    (ap (λ (o : Outcome). took (a .stepped .receiver) (o .answer) (o .held) (now (a .receive)) (written (o .sent) (now (a .reply)))) (c .before .before .channel .ensures (now (a .marks))))
 
 pub act-spec : {M : Type 1} → statement M
 act-spec =
@@ -89,6 +87,7 @@ act-spec =
     (λ c. search needs)
     returns-4
     returns-5
+    (λ c. search needs)
     (λ c. search needs)
     (λ c. search needs)
     (λ c. search needs)

@@ -6,7 +6,7 @@ use Rattle.podbox.proofs.socket.take_byte.Tie as tie
 
 returns : tie.Need-returns
 unfolding byteOf stepDoes
-returns c = rw (← c .before .before .before .before .before .before .before .before .before .before .before .before .is-kind .ensures, c .before .before .before .before .before .before .before .before .before .before .before .if1 .taken, ← c .before .before .before .before .before .before .before .before .before .before .kind-of .ensures) (c .before .before .before .before .before .before .take-lent .ensures)
+returns c = rw (← c .before .before .before .before .before .before .before .before .before .before .before .before .before .before .before .is-kind .ensures, c .before .before .before .before .before .before .before .before .before .before .before .before .before .before .if1 .taken, ← c .before .before .before .before .before .before .before .before .before .before .before .before .before .kind-of .ensures) (c .before .before .before .before .before .before .before .before .take-lent .ensures)
 
 returns-2 : tie.Need-returns-2
 unfolding byteOf
@@ -19,6 +19,7 @@ take-byte-spec =
     (λ c κs. search needs)
     (λ c κs. search needs)
     (λ c κs. search needs)
+    (λ c. search needs)
     (λ c. search needs)
     (λ c. search needs)
     (λ c. search needs)
