@@ -153,9 +153,10 @@ def needed(behind, some, judged, making):
         'use podbox::Move;',
         'struct Allowed { count: usize, answer: u64 }',
         f'fn costerbloom_moves(moves: &[Move], {behind}, {BUFFERS}) -> u64'
-        ' ensures { λ r. ⌜ left r (heldOf (now (memory .exit)))'
+        ' ensures { λ r. ⌜ ((marks : List ℕ) → left r'
+        ' (heldOf (now (memory .exit)) marks)'
         f' (now (numbers .exit)) ≡ movesNumbers {judged} (now (moves .entry))'
-        ' (heldOf (now (memory .entry))) (now (numbers .entry)) ⌝ }',
+        ' (heldOf (now (memory .entry)) marks) (now (numbers .entry))) ⌝ }',
         f'{{ let allowed = allow(moves.len(), {names_of(behind)},'
         ' memory.len(), numbers.len()); let count = allowed.count;'
         ' let mut i = 0; while i < count {'

@@ -11,7 +11,7 @@ use lib.Seq.{take-length, set-append-seam}
 use borrow.Author.Tests.{leb-true, le-leb}
 use Rattle.ground.specs.Lists.{written}
 use Rattle.ground.specs.Tests.{Test, AllHold, FirstToFail}
-use Rattle.ground.specs.Calls.{Left, left, leaves}
+use Rattle.ground.specs.Calls.{Left, left, leaves, outcome}
 use Rattle.ground.proofs.InOrder.{tested-cases, tested-passed, tested-failed, all-or-first, first-named}
 use Rattle.kinds.specs.Kinds.{kindOf}
 use Rattle.programs.specs.Memory.{memorySize}
@@ -26,12 +26,12 @@ use Rattle.sysex.specs.Numbers.{refused, answerNumber}
 use Rattle.sysex.specs.Carrying.{Outcome}
 use Rattle.podbox.specs.declared.Move.{Move}
 use Rattle.podbox.specs.Settings.{isValid}
-use Rattle.podbox.specs.Messages.{messageDoes}
+use Rattle.podbox.specs.Messages.{controllerDoes, messageDoes}
 use Rattle.podbox.specs.Moves.{moveMessage}
 use Rattle.podbox.specs.Box.{listTests, panel, Moves, handsOf, noted, plainAnswer, boxRules, listAnswer, moveDoes}
 use Rattle.podbox.proofs.OwnChannel.{on-channel, controller-length}
 use Rattle.costerbloom.specs.Numbers.{packed, leftNumbers, movesNumbers}
-use Rattle.costerbloom.specs.Private.{allowedOf, Buffers, buffers, makeOf, makeAll}
+use Rattle.costerbloom.specs.Private.{allowedOf, buffers, makeOf, makeAll}
 
 module _ (kindNumber : ℕ) (settings : Settings) where
   -- how many moves an answer to a list of `count` allows
@@ -53,30 +53,28 @@ module _ (kindNumber : ℕ) (settings : Settings) where
   pub count-noted : (count memory numbers : ℕ) → allowedOf kindNumber settings count memory numbers .count ≤ numbers
   count-noted count memory numbers = made-cases (λ (n : ℕ). n ≤ numbers) count memory numbers (λ all. leb-true count numbers (all .1 .0)) (omega arith)
 
-  -- what a move does, as a message
-  abbrev sent : Move → List ℕ → Outcome
-  sent move memory = messageDoes (kindOf kindNumber) settings panel (heldOf memory) (moveMessage settings move)
+  -- what a move does to memory, and its answer
+  abbrev did : Move → List ℕ → Outcome
+  did move memory = controllerDoes (kindOf kindNumber) panel (move .controller) (move .value) (heldOf memory [])
 
-  module _ (valid : isValid settings ≡ true) where
-    sent-length : (move : Move) (memory : List ℕ) → memorySize (kindOf kindNumber) ≤ length memory → length (sent move memory .held .memory) ≡ length memory
-    sent-length move memory m =
-        rw (on-channel (kindOf kindNumber) panel (heldOf memory) settings move valid)
-        (controller-length (kindOf kindNumber) panel (heldOf memory) (move .controller) (move .value) m)
+  did-length : (move : Move) (memory : List ℕ) → memorySize (kindOf kindNumber) ≤ length memory → length (did move memory .held .memory) ≡ length memory
+  did-length move memory m = controller-length (kindOf kindNumber) panel (heldOf memory []) (move .controller) (move .value) m
 
-    move-sent : (move : Move) (memory : List ℕ) → memorySize (kindOf kindNumber) ≤ length memory → moveDoes (kindOf kindNumber) panel move (heldOf memory) ≡ sent move memory
-    unfolding moveDoes
-    move-sent move memory m =
-        rw (le-leb (memorySize (kindOf kindNumber)) (length memory) m) (sym (on-channel (kindOf kindNumber) panel (heldOf memory) settings move valid))
+  -- the next move, where the numbers of the moves before it stand in front
+  make-next : (move : Move) (memory before rest : List ℕ) (old : ℕ) → memorySize (kindOf kindNumber) ≤ length memory
+      → makeOf kindNumber (length before) move (buffers memory (before ++ old ∷ rest))
+      ≡ buffers (did move memory .held .memory) ((before ++ (answerNumber (did move memory .answer) ∷ [])) ++ rest)
+  unfolding makeOf moveDoes
+  make-next move memory before rest old m =
+      let number = answerNumber (did move memory .answer) in
+      rw (le-leb (memorySize (kindOf kindNumber)) (length memory) m)
+      (ap (buffers (did move memory .held .memory)) (set-append-seam before old rest number ∙ sym (append-assoc before (number ∷ []) rest)))
 
-    -- the next move, where the numbers of the moves before it stand in front
-    make-next : (move : Move) (memory before rest : List ℕ) (old : ℕ) → memorySize (kindOf kindNumber) ≤ length memory
-        → makeOf kindNumber (length before) move (buffers memory (before ++ old ∷ rest))
-        ≡ buffers (sent move memory .held .memory) ((before ++ (answerNumber (sent move memory .answer) ∷ [])) ++ rest)
-    unfolding makeOf
-    make-next move memory before rest old m =
-        let number = answerNumber (sent move memory .answer) in
-        ap (λ (o : Outcome). buffers (o .held .memory) (set (before ++ old ∷ rest) (length before) (answerNumber (o .answer)))) (move-sent move memory m)
-        ∙ ap (buffers (sent move memory .held .memory)) (set-append-seam before old rest number ∙ sym (append-assoc before (number ∷ []) rest))
+  module _ (valid : isValid settings ≡ true) (marks : List ℕ) where
+    -- the same as a message, whatever marks stand beside memory: they stay
+    sent-did : (move : Move) (memory : List ℕ) → messageDoes (kindOf kindNumber) settings panel (heldOf memory marks) (moveMessage settings move)
+        ≡ outcome (did move memory .answer) (heldOf (did move memory .held .memory) marks) []
+    sent-did move memory = on-channel (kindOf kindNumber) panel (heldOf memory marks) settings move valid
 
     abbrev finished : List Move → FinishesOf (boxRules kindNumber settings)
     finished moves = handing (handsOf settings (Moves moves))
@@ -84,46 +82,56 @@ module _ (kindNumber : ℕ) (settings : Settings) where
     -- the moves behind those whose numbers stand in front: they leave what their messages leave, carried out one by one
     make-rest : (moves : List Move) (memory before rest : List ℕ) → memorySize (kindOf kindNumber) ≤ length memory → length moves ≤ length rest
         → makeAll kindNumber (length before) moves (buffers memory (before ++ rest))
-        ≡ buffers (heldAfter (boxRules kindNumber settings) (heldOf memory) (finished moves) .memory)
-        (before ++ written (noted (saidsOf (boxRules kindNumber settings) (heldOf memory) (finished moves))) rest)
+        ≡ buffers (heldAfter (boxRules kindNumber settings) (heldOf memory marks) (finished moves) .memory)
+        (before ++ written (noted (saidsOf (boxRules kindNumber settings) (heldOf memory marks) (finished moves))) rest)
     make-rest [] memory before rest m fits = refl
     make-rest (move ∷ moves) memory before [] m fits = absurd (omega arith)
     make-rest (move ∷ moves) memory before (old ∷ rest) m fits =
-        let number = answerNumber (sent move memory .answer) in
-        let after = sent move memory .held .memory in
-        let kept = sent-length move memory m in
+        let number = answerNumber (did move memory .answer) in
+        let after = did move memory .held .memory in
+        let kept = did-length move memory m in
         let one : length before + 1 ≡ length (before ++ (number ∷ [])) = sym (length-append before (number ∷ [])) in
         (λ i. makeAll kindNumber (one i) moves (make-next move memory before rest old m i))
         ∙ make-rest moves after (before ++ (number ∷ [])) rest (omega arith) (omega arith)
-        ∙ ap (buffers (heldAfter (boxRules kindNumber settings) (heldOf after) (finished moves) .memory))
-        (append-assoc before (number ∷ []) (written (noted (saidsOf (boxRules kindNumber settings) (heldOf after) (finished moves))) rest))
+        ∙ ap (buffers (heldAfter (boxRules kindNumber settings) (heldOf after marks) (finished moves) .memory))
+        (append-assoc before (number ∷ []) (written (noted (saidsOf (boxRules kindNumber settings) (heldOf after marks) (finished moves))) rest))
+        ∙ ap (λ (o : Outcome). buffers (heldAfter (boxRules kindNumber settings) (o .held) (finished moves) .memory)
+        (before ++ written (answerNumber (o .answer) ∷ noted (saidsOf (boxRules kindNumber settings) (o .held) (finished moves))) (old ∷ rest)))
+        (sym (sent-did move memory))
 
-  module _ (moves : List Move) (memory numbers : List ℕ) where
+    marks-stay : (moves : List Move) (memory : List ℕ) → heldAfter (boxRules kindNumber settings) (heldOf memory marks) (finished moves) .marks ≡ marks
+    marks-stay [] memory = refl
+    marks-stay (move ∷ moves) memory =
+        ap (λ (o : Outcome). heldAfter (boxRules kindNumber settings) (o .held) (finished moves) .marks) (sent-did move memory) ∙ marks-stay moves (did move memory .held .memory)
+
+  module _ (moves : List Move) (memory numbers marks : List ℕ) where
     abbrev ts : List (Test ℕ)
     ts = listTests kindNumber settings (length moves) (length memory) (length numbers)
 
     -- what a list leaves that is turned away, and one that is not
     abbrev turned : ℕ → Left Held Answer
-    turned number = left (plainAnswer number) (heldOf memory) numbers
+    turned number = left (plainAnswer number) (heldOf memory marks) numbers
 
     abbrev done : Left Held Answer
-    done = leaves (directDoes (boxRules kindNumber settings) (heldOf memory) (Moves moves)) numbers
+    done = leaves (directDoes (boxRules kindNumber settings) (heldOf memory marks) (Moves moves)) numbers
 
     -- what so many moves leave, under an answer
     abbrev leftBy : ℕ → ℕ → Left Held ℕ
-    leftBy answer count = let d = makeAll kindNumber 0 (take count moves) (buffers memory numbers) in left answer (heldOf (d .memory)) (d .numbers)
+    leftBy answer count = let d = makeAll kindNumber 0 (take count moves) (buffers memory numbers) in left answer (heldOf (d .memory) marks) (d .numbers)
 
     abbrev Promised : Type 0
     Promised =
         let allowed = allowedOf kindNumber settings (length moves) (length memory) (length numbers) in
-        leftBy (allowed .answer) (allowed .count) ≡ movesNumbers kindNumber settings moves (heldOf memory) numbers
+        leftBy (allowed .answer) (allowed .count) ≡ movesNumbers kindNumber settings moves (heldOf memory marks) numbers
 
     all-hold : AllHold ts → Promised
     unfolding allowedOf listAnswer movesNumbers directOf packed
     all-hold all =
+        let valid = all .1 .1 .1 .1 .0 in
+        let made = make-rest valid marks moves memory [] numbers (leb-true _ _ (all .1 .1 .1 .0)) (leb-true _ _ (all .1 .0)) in
+        let stay = sym (marks-stay valid marks moves memory) in
         rw (tested-passed ts refused Taken all, tested-passed ts turned done all, take-length moves)
-        (ap (λ (d : Buffers). left 0 (heldOf (d .memory)) (d .numbers))
-        (make-rest (all .1 .1 .1 .1 .0) moves memory [] numbers (leb-true _ _ (all .1 .1 .1 .0)) (leb-true _ _ (all .1 .0))))
+        (λ i. left 0 (heldOf (made i .memory) (stay i)) (made i .numbers))
 
     one-fails : (number : ℕ) → FirstToFail ts number → Promised
     unfolding allowedOf listAnswer movesNumbers directOf packed

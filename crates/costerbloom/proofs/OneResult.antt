@@ -1,10 +1,10 @@
 -- Each promise of this crate leaves room for one result only.
 use Prim.Native.Nat.{ℕ}
-use mathlib.Core.List.{List}
-use mathlib.Core.Path.{_≡_}
+use mathlib.Core.List.{List, []}
+use mathlib.Core.Path.{_≡_, ap}
 use Rattle.ground.specs.Calls.{left}
 use Rattle.ground.proofs.OneResult.{one, left-one}
-use Rattle.programs.specs.Held.{Held}
+use Rattle.programs.specs.Held.{Held, heldOf}
 use Rattle.framing.specs.declared.Receiver.{Receiver}
 use Rattle.sockets.specs.Box.{took}
 use Rattle.sockets.proofs.OneResult.{took-one}
@@ -21,12 +21,15 @@ pub costerbloom-whole-one : (kindNumber : ℕ) (settings : Settings) (message : 
     → left a m x ≡ wholeNumbers kindNumber settings message held reply → left b n y ≡ wholeNumbers kindNumber settings message held reply → (a ≡ b) × (m ≡ n) × (x ≡ y)
 costerbloom-whole-one kindNumber settings message held reply a b m n x y = left-one
 
-pub costerbloom-moves-one : (kindNumber : ℕ) (settings : Settings) (moves : List Move) (held : Held) (numbers : List ℕ) (a b : ℕ) (m n : Held) (x y : List ℕ)
-    → left a m x ≡ movesNumbers kindNumber settings moves held numbers → left b n y ≡ movesNumbers kindNumber settings moves held numbers → (a ≡ b) × (m ≡ n) × (x ≡ y)
-costerbloom-moves-one kindNumber settings moves held numbers a b m n x y = left-one
+pub costerbloom-moves-one : (kindNumber : ℕ) (settings : Settings) (moves : List Move) (memory numbers : List ℕ) (a b : ℕ) (m n x y : List ℕ)
+    → ((marks : List ℕ) → left a (heldOf m marks) x ≡ movesNumbers kindNumber settings moves (heldOf memory marks) numbers)
+    → ((marks : List ℕ) → left b (heldOf n marks) y ≡ movesNumbers kindNumber settings moves (heldOf memory marks) numbers)
+    → (a ≡ b) × (m ≡ n) × (x ≡ y)
+costerbloom-moves-one kindNumber settings moves memory numbers a b m n x y p q =
+    let e = left-one (p []) (q []) in (e .0, ap (λ (held : Held). held .memory) (e .1), e .2)
 
 pub costerbloom-scale-one : (kindNumber controller value : ℕ) (r s : ℕ) → r ≡ scaleNumber kindNumber controller value → s ≡ scaleNumber kindNumber controller value → r ≡ s
 costerbloom-scale-one kindNumber controller value r s = one
 
-pub costerbloom-back-one : (kindNumber controller : ℕ) (held : Held) (r s : ℕ) → r ≡ backNumber kindNumber controller held → s ≡ backNumber kindNumber controller held → r ≡ s
-costerbloom-back-one kindNumber controller held r s = one
+pub costerbloom-back-one : (kindNumber controller : ℕ) (memory : List ℕ) (r s : ℕ) → r ≡ backNumber kindNumber controller memory → s ≡ backNumber kindNumber controller memory → r ≡ s
+costerbloom-back-one kindNumber controller memory r s = one

@@ -1,11 +1,13 @@
 -- The C interface: "numbers and byte buffers only".
 use Prim.Native.Nat.{ℕ, _+_, _*_}
 use mathlib.Core.List.{List, [], _∷_}
+use lib.ListN.{length}
 use Rattle.ground.specs.Tests.{tested}
 use Rattle.ground.specs.Calls.{Left, left}
 use Rattle.kinds.specs.declared.Kind.{Kind}
-use Rattle.kinds.specs.Kinds.{kindOf}
-use Rattle.programs.specs.Held.{Held, Edit, bytesIn}
+use Rattle.kinds.specs.Kinds.{kindOf, sizeOf}
+use Rattle.programs.specs.Memory.{editPlace, partOf}
+use Rattle.programs.specs.Held.{Held}
 use Rattle.controls.specs.declared.Reading.{Reading}
 use Rattle.controls.specs.declared.Reading.the-variants as reading
 use Rattle.controls.specs.Answers.{refusalOf, valueOf}
@@ -16,7 +18,7 @@ use Rattle.sockets.specs.Box.{Took, took}
 use Rattle.sysex.specs.declared.Settings.{Settings}
 use Rattle.sysex.specs.declared.Answer.{Answer}
 use Rattle.sysex.specs.Numbers.{answerNumber, answerLength}
-use Rattle.sysex.specs.Carrying.{heldTest}
+use Rattle.sysex.specs.Carrying.{memoryTest}
 use Rattle.podbox.specs.declared.Move.{Move}
 use Rattle.podbox.specs.Box.{kindTest, panel, takeOf, wholeOf, movesOf}
 
@@ -58,12 +60,13 @@ unfoldable pub scaleNumber : ℕ → ℕ → ℕ → ℕ
 scaleNumber kindNumber controller value = readingNumber (scaleCall kindNumber controller value)
 
 -- "Back, from the edit buffer", the panel's, where memory is lent: 30 for a short one
-unfoldable pub memoryBack : Kind → ℕ → Held → Reading
-memoryBack kind controller held = tested (heldTest kind held ∷ []) reading.Refused (backOf kind controller (bytesIn kind panel Edit held))
+unfoldable pub memoryBack : Kind → ℕ → List ℕ → Reading
+memoryBack kind controller memory =
+    tested (memoryTest kind (length memory) ∷ []) reading.Refused (backOf kind controller (partOf (editPlace kind panel) (sizeOf kind) memory))
 
 -- and before it 32 for a number that is no kind
-unfoldable pub backCall : ℕ → ℕ → Held → Reading
-backCall kindNumber controller held = tested (kindTest kindNumber ∷ []) reading.Refused (memoryBack (kindOf kindNumber) controller held)
+unfoldable pub backCall : ℕ → ℕ → List ℕ → Reading
+backCall kindNumber controller memory = tested (kindTest kindNumber ∷ []) reading.Refused (memoryBack (kindOf kindNumber) controller memory)
 
-unfoldable pub backNumber : ℕ → ℕ → Held → ℕ
-backNumber kindNumber controller held = readingNumber (backCall kindNumber controller held)
+unfoldable pub backNumber : ℕ → ℕ → List ℕ → ℕ
+backNumber kindNumber controller memory = readingNumber (backCall kindNumber controller memory)

@@ -27,10 +27,10 @@ pub record Buffers : Type 0 where
 abbrev pub buffers : List ℕ → List ℕ → Buffers
 buffers memory numbers = record { memory = memory; numbers = numbers }
 
--- the move at a place of the list, and its number
+-- the move at a place of the list, and its number; no move looks at a mark
 unfoldable pub makeOf : ℕ → ℕ → Move → Buffers → Buffers
 makeOf kindNumber place one d =
-    let done = moveDoes (kindOf kindNumber) panel one (heldOf (d .memory)) in
+    let done = moveDoes (kindOf kindNumber) panel one (heldOf (d .memory) []) in
     buffers (done .held .memory) (set (d .numbers) place (answerNumber (done .answer)))
 
 -- moves from a place of the list on

@@ -32,10 +32,11 @@ pub extern "C" fn costerbloom_take(
     revision2: u8,
     revision3: u8,
     memory: &mut [u8],
+    marks: &mut [u8],
     receive: &mut [u8],
     reply: &mut [u8],
 ) -> u64
-    ensures { λ r. ⌜ took (now (receiver .exit)) r (heldOf (now (memory .exit))) (now (receive .exit)) (now (reply .exit)) ≡ takeNumbers kind (settingsOf channel omni revision0 revision1 revision2 revision3) socket (now (receiver .entry)) byte (heldOf (now (memory .entry))) (now (receive .entry)) (now (reply .entry)) ⌝ }
+    ensures { λ r. ⌜ took (now (receiver .exit)) r (heldOf (now (memory .exit)) (now (marks .exit))) (now (receive .exit)) (now (reply .exit)) ≡ takeNumbers kind (settingsOf channel omni revision0 revision1 revision2 revision3) socket (now (receiver .entry)) byte (heldOf (now (memory .entry)) (now (marks .entry))) (now (receive .entry)) (now (reply .entry)) ⌝ }
 {
     let handed = take(
         *receiver,
@@ -49,6 +50,7 @@ pub extern "C" fn costerbloom_take(
         revision2,
         revision3,
         memory,
+        marks,
         receive,
         reply,
     );
@@ -68,10 +70,11 @@ fn take(
     revision2: u8,
     revision3: u8,
     memory: &mut [u8],
+    marks: &mut [u8],
     receive: &mut [u8],
     reply: &mut [u8],
 ) -> Handed
-    ensures { λ r. ⌜ took (r .receiver) (r .answer) (heldOf (now (memory .exit))) (now (receive .exit)) (now (reply .exit)) ≡ takeNumbers kind (settingsOf channel omni revision0 revision1 revision2 revision3) socket receiver byte (heldOf (now (memory .entry))) (now (receive .entry)) (now (reply .entry)) ⌝ }
+    ensures { λ r. ⌜ took (r .receiver) (r .answer) (heldOf (now (memory .exit)) (now (marks .exit))) (now (receive .exit)) (now (reply .exit)) ≡ takeNumbers kind (settingsOf channel omni revision0 revision1 revision2 revision3) socket receiver byte (heldOf (now (memory .entry)) (now (marks .entry))) (now (receive .entry)) (now (reply .entry)) ⌝ }
 {
     let settings = numbers::settings(channel, omni, revision0, revision1, revision2, revision3);
     let took = podbox::take_byte(
@@ -81,6 +84,7 @@ fn take(
         kind,
         settings,
         memory,
+        marks,
         receive,
         reply,
     );
@@ -104,12 +108,13 @@ pub extern "C" fn costerbloom_whole(
     revision2: u8,
     revision3: u8,
     memory: &mut [u8],
+    marks: &mut [u8],
     reply: &mut [u8],
 ) -> u64
-    ensures { λ r. ⌜ left r (heldOf (now (memory .exit))) (now (reply .exit)) ≡ wholeNumbers kind (settingsOf channel omni revision0 revision1 revision2 revision3) (now (message .entry)) (heldOf (now (memory .entry))) (now (reply .entry)) ⌝ }
+    ensures { λ r. ⌜ left r (heldOf (now (memory .exit)) (now (marks .exit))) (now (reply .exit)) ≡ wholeNumbers kind (settingsOf channel omni revision0 revision1 revision2 revision3) (now (message .entry)) (heldOf (now (memory .entry)) (now (marks .entry))) (now (reply .entry)) ⌝ }
 {
     let settings = numbers::settings(channel, omni, revision0, revision1, revision2, revision3);
-    let answer = podbox::whole_message(message, kind, settings, memory, reply);
+    let answer = podbox::whole_message(message, kind, settings, memory, marks, reply);
     numbers::packed(answer)
 }
 
@@ -135,7 +140,7 @@ fn scale(controller: u32, value: u32, kind: u32) -> Reading
 // The value that the edit buffer shows for a controller.
 #[no_mangle]
 pub extern "C" fn costerbloom_back(controller: u32, kind: u32, memory: &[u8]) -> u32
-    ensures { λ r. ⌜ r ≡ backNumber kind controller (heldOf (now (memory .entry))) ⌝ }
+    ensures { λ r. ⌜ r ≡ backNumber kind controller (now (memory .entry)) ⌝ }
 {
     let reading = back(controller, kind, memory);
     numbers::reading_number(reading)
@@ -143,7 +148,7 @@ pub extern "C" fn costerbloom_back(controller: u32, kind: u32, memory: &[u8]) ->
 
 // The same, told apart by an enum.
 fn back(controller: u32, kind: u32, memory: &[u8]) -> Reading
-    ensures { λ r. ⌜ r ≡ backCall kind controller (heldOf (now (memory .entry))) ⌝ }
+    ensures { λ r. ⌜ r ≡ backCall kind controller (now (memory .entry)) ⌝ }
 {
     if kinds::is_kind(kind) {
         return shown(controller, kinds::kind_of(kind), memory);
@@ -152,7 +157,7 @@ fn back(controller: u32, kind: u32, memory: &[u8]) -> Reading
 }
 
 fn shown(controller: u32, kind: Kind, memory: &[u8]) -> Reading
-    ensures { λ r. ⌜ r ≡ memoryBack kind controller (heldOf (now (memory .entry))) ⌝ }
+    ensures { λ r. ⌜ r ≡ memoryBack kind controller (now (memory .entry)) ⌝ }
 {
     if memory.len() < programs::memory_size(kind) {
         return Reading::Refused(30);

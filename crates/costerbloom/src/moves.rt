@@ -1,6 +1,7 @@
 // Many moves in one go.
 ghost use mathlib.Core.Path.{_≡_};
-ghost use Prim.Native.Nat.{_<_};
+ghost use mathlib.Core.List.{List};
+ghost use Prim.Native.Nat.{ℕ, _<_};
 ghost use lib.ListN.{length};
 ghost use Rattle.ground.specs.Calls.{left};
 ghost use Rattle.programs.specs.Held.{heldOf};
@@ -29,7 +30,7 @@ pub extern "C" fn costerbloom_moves(
     memory: &mut [u8],
     numbers: &mut [u8],
 ) -> u64
-    ensures { λ r. ⌜ left r (heldOf (now (memory .exit))) (now (numbers .exit)) ≡ movesNumbers kind (settingsOf channel omni revision0 revision1 revision2 revision3) (now (moves .entry)) (heldOf (now (memory .entry))) (now (numbers .entry)) ⌝ }
+    ensures { λ r. ⌜ ((marks : List ℕ) → left r (heldOf (now (memory .exit)) marks) (now (numbers .exit)) ≡ movesNumbers kind (settingsOf channel omni revision0 revision1 revision2 revision3) (now (moves .entry)) (heldOf (now (memory .entry)) marks) (now (numbers .entry))) ⌝ }
 {
     let allowed = allow(
         moves.len(),

@@ -5,7 +5,7 @@ use mathlib.Core.Path.{_≡_, ap}
 use Rattle.ground.specs.Calls.{left, outcome}
 use Rattle.ground.proofs.OneResult.{one, left-one}
 use Rattle.kinds.specs.declared.Kind.{Kind}
-use Rattle.programs.specs.Held.{Held}
+use Rattle.programs.specs.Held.{Held, heldOf}
 use Rattle.framing.specs.declared.Receiver.{Receiver}
 use Rattle.sockets.specs.Box.{took}
 use Rattle.sockets.proofs.OneResult.{took-one}
@@ -28,9 +28,10 @@ pub list-answer-one : (kindNumber : ℕ) (settings : Settings) (count memory num
     → a ≡ listAnswer kindNumber settings count memory numbers → b ≡ listAnswer kindNumber settings count memory numbers → a ≡ b
 list-answer-one kindNumber settings count memory numbers a b = one
 
-pub make-move-one : (kind : Kind) (player : ℕ) (move : Move) (held : Held) (a b : Answer) (m n : Held)
-    → outcome a m [] ≡ moveDoes kind player move held → outcome b n [] ≡ moveDoes kind player move held → (a ≡ b) × (m ≡ n)
-make-move-one kind player move held a b m n p q = let e = one p q in (ap (λ (o : Outcome). o .answer) e, ap (λ (o : Outcome). o .held) e)
+pub make-move-one : (kind : Kind) (player : ℕ) (move : Move) (memory : List ℕ) (a b : Answer) (m n : List ℕ)
+    → ((marks : List ℕ) → outcome a (heldOf m marks) [] ≡ moveDoes kind player move (heldOf memory marks))
+    → ((marks : List ℕ) → outcome b (heldOf n marks) [] ≡ moveDoes kind player move (heldOf memory marks)) → (a ≡ b) × (m ≡ n)
+make-move-one kind player move memory a b m n p q = let e = one (p []) (q []) in (ap (λ (o : Outcome). o .answer) e, ap (λ (o : Outcome). o .held .memory) e)
 
 pub take-byte-one : (kindNumber : ℕ) (settings : Settings) (socket : ℕ) (receiver : Receiver) (byte : ℕ) (held : Held) (receive reply : List ℕ) (r s : Receiver) (a b : Answer) (m n : Held) (x y o p : List ℕ)
     → took r a m x o ≡ takeOf kindNumber settings socket receiver byte held receive reply → took s b n y p ≡ takeOf kindNumber settings socket receiver byte held receive reply

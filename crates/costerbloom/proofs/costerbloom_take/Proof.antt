@@ -95,10 +95,10 @@ module _ {M : Type 1} (𝓤 : URA M) (H : Heap 𝓤) (A : Atoms 𝓤) (at-mem : 
 
       -- the machine values of the parameters
       abbrev spelled : Spells rows
-      spelled = (ptr-vals, (uint-vals w32, (uint-vals w8, (uint-vals w32, (uint-vals w8, (uint-vals w8, (uint-vals w8, (uint-vals w8, (uint-vals w8, (uint-vals w8, (slice-vals, (slice-vals, (slice-vals, tt)))))))))))))
+      spelled = (ptr-vals, (uint-vals w32, (uint-vals w8, (uint-vals w32, (uint-vals w8, (uint-vals w8, (uint-vals w8, (uint-vals w8, (uint-vals w8, (uint-vals w8, (slice-vals, (slice-vals, (slice-vals, (slice-vals, tt))))))))))))))
 
       tells : Tellss rows (Ises rows) spelled
-      tells = (mut-tells (named 0) (κs .0) T.the-row, (uint-tells w32, (uint-tells w8, (uint-tells w32, (uint-tells w8, (uint-tells w8, (uint-tells w8, (uint-tells w8, (uint-tells w8, (uint-tells w8, (mut-slice-tells (named 1) (κs .1 .0) u8, (mut-slice-tells (named 2) (κs .1 .1 .0) u8, (mut-slice-tells (named 3) (κs .1 .1 .1 .0) u8, tt)))))))))))))
+      tells = (mut-tells (named 0) (κs .0) T.the-row, (uint-tells w32, (uint-tells w8, (uint-tells w32, (uint-tells w8, (uint-tells w8, (uint-tells w8, (uint-tells w8, (uint-tells w8, (uint-tells w8, (mut-slice-tells (named 1) (κs .1 .0) u8, (mut-slice-tells (named 2) (κs .1 .1 .0) u8, (mut-slice-tells (named 3) (κs .1 .1 .1 .0) u8, (mut-slice-tells (named 4) (κs .1 .1 .1 .1 .0) u8, tt))))))))))))))
 
       abbrev values : Vals this.signature κs
       values = valss rows spelled a
@@ -133,70 +133,77 @@ module _ {M : Type 1} (𝓤 : URA M) (H : Heap 𝓤) (A : Atoms 𝓤) (at-mem : 
           -- the locals are allocated, and the parameters stored
           enter ! _ _ _ _ _ $ alloc1 ! (λ l0. alloc1 ! (λ l1. alloc1 ! (λ l2. alloc1 ! (λ l3. alloc1 ! (λ l4. alloc1 ! (λ l5. alloc1 ! (λ l6. alloc1 ! (λ l7.
           alloc1 ! (λ l8. alloc1 ! (λ l9. alloc1 ! (λ l10. alloc1 ! (λ l11. alloc1 ! (λ l12. alloc1 ! (λ l13. alloc1 ! (λ l14. alloc1 ! (λ l15. alloc1 ! (λ l16.
-          alloc1 ! (λ l17. alloc1 ! (λ l18. alloc1 ! (λ l19. alloc1 ! (λ l20. alloc1 ! (λ l21. alloc0 ! $ params1 ! $ pass1 ! (init ! 40 refl (tt, tt)) $
-          pass1 ! (init ! 38 refl (tt, record { fits = are .1 .0 .1 })) $ pass1 ! (init ! 36 refl (tt, record { fits = are .1 .1 .0 .1 })) $
-          pass1 ! (init ! 34 refl (tt, record { fits = are .1 .1 .1 .0 .1 })) $ pass1 ! (init ! 32 refl (tt, record { fits = are .1 .1 .1 .1 .0 .1 })) $
-          pass1 ! (init ! 30 refl (tt, record { fits = are .1 .1 .1 .1 .1 .0 .1 })) $
-          pass1 ! (init ! 28 refl (tt, record { fits = are .1 .1 .1 .1 .1 .1 .0 .1 })) $
-          pass1 ! (init ! 26 refl (tt, record { fits = are .1 .1 .1 .1 .1 .1 .1 .0 .1 })) $
-          pass1 ! (init ! 24 refl (tt, record { fits = are .1 .1 .1 .1 .1 .1 .1 .1 .0 .1 })) $
-          pass1 ! (init ! 22 refl (tt, record { fits = are .1 .1 .1 .1 .1 .1 .1 .1 .1 .0 .1 })) $
-          pass1 ! (init ! 20 refl (tt, (tt, (record { fits = are .1 .1 .1 .1 .1 .1 .1 .1 .1 .1 .0 .0 .1 .0 }, tt)))) $
-          pass1 ! (init ! 18 refl (tt, (tt, (record { fits = are .1 .1 .1 .1 .1 .1 .1 .1 .1 .1 .1 .0 .0 .1 .0 }, tt)))) $
-          pass1 ! (init ! 16 refl (tt, (tt, (record { fits = are .1 .1 .1 .1 .1 .1 .1 .1 .1 .1 .1 .1 .0 .0 .1 .0 }, tt)))) $ pass0 ! $
+          alloc1 ! (λ l17. alloc1 ! (λ l18. alloc1 ! (λ l19. alloc1 ! (λ l20. alloc1 ! (λ l21. alloc1 ! (λ l22. alloc1 ! (λ l23. alloc1 ! (λ l24. alloc0 ! $
+          params1 ! $ pass1 ! (init ! 46 refl (tt, tt)) $ pass1 ! (init ! 44 refl (tt, record { fits = are .1 .0 .1 })) $
+          pass1 ! (init ! 42 refl (tt, record { fits = are .1 .1 .0 .1 })) $ pass1 ! (init ! 40 refl (tt, record { fits = are .1 .1 .1 .0 .1 })) $
+          pass1 ! (init ! 38 refl (tt, record { fits = are .1 .1 .1 .1 .0 .1 })) $ pass1 ! (init ! 36 refl (tt, record { fits = are .1 .1 .1 .1 .1 .0 .1 })) $
+          pass1 ! (init ! 34 refl (tt, record { fits = are .1 .1 .1 .1 .1 .1 .0 .1 })) $
+          pass1 ! (init ! 32 refl (tt, record { fits = are .1 .1 .1 .1 .1 .1 .1 .0 .1 })) $
+          pass1 ! (init ! 30 refl (tt, record { fits = are .1 .1 .1 .1 .1 .1 .1 .1 .0 .1 })) $
+          pass1 ! (init ! 28 refl (tt, record { fits = are .1 .1 .1 .1 .1 .1 .1 .1 .1 .0 .1 })) $
+          pass1 ! (init ! 26 refl (tt, (tt, (record { fits = are .1 .1 .1 .1 .1 .1 .1 .1 .1 .1 .0 .0 .1 .0 }, tt)))) $
+          pass1 ! (init ! 24 refl (tt, (tt, (record { fits = are .1 .1 .1 .1 .1 .1 .1 .1 .1 .1 .1 .0 .0 .1 .0 }, tt)))) $
+          pass1 ! (init ! 22 refl (tt, (tt, (record { fits = are .1 .1 .1 .1 .1 .1 .1 .1 .1 .1 .1 .1 .0 .0 .1 .0 }, tt)))) $
+          pass1 ! (init ! 20 refl (tt, (tt, (record { fits = are .1 .1 .1 .1 .1 .1 .1 .1 .1 .1 .1 .1 .1 .0 .0 .1 .0 }, tt)))) $ pass0 ! $
           -- the borrow is opened, and the receiver is read
-          move ! (45 ∷ []) $ fsplit ! $ fsplit3 ! $ drop ! $ move ! (47 ∷ []) $ split ! $ move ! (2 ∷ 3 ∷ 0 ∷ []) $ opens ! tt T.the-row _ _ (λ us.
+          move ! (51 ∷ []) $ fsplit ! $ fsplit3 ! $ drop ! $ move ! (53 ∷ []) $ split ! $ move ! (2 ∷ 3 ∷ 0 ∷ []) $ opens ! tt T.the-row _ _ (λ us.
           spelt ! T.the-row (Is T.the-row) (shows 𝓤 H A T.the-row) (LL.vals T.the-type T′.the-laws)
           (LL.tells T.the-type T′.the-laws) fullShare receiver us _ _ $ use1 W (‵ (cell receiver)) (W .laws .raw-at _ _ _ _ _) $ move ! (1 ∷ []) $
           peeks ! T.the-row (Is T.the-row) (shows 𝓤 H A T.the-row) receiver (mach receiver ∷ []) (λ was.
-          assigns ! (of-opd ! (load ! (from ! (hop ! (look ! 47 refl) (stop !))) (look ! 1 refl))) (from ! (stop !))
-          (init ! 19 refl (LL.lawful T.the-type T′.the-laws 𝓤 H A W .typed receiver _ was .0)) $
+          assigns ! (of-opd ! (load ! (from ! (hop ! (look ! 53 refl) (stop !))) (look ! 1 refl))) (from ! (stop !))
+          (init ! 23 refl (LL.lawful T.the-type T′.the-laws 𝓤 H A W .typed receiver _ was .0)) $
           -- the slices are lent
-          assigns ! (addr ! (from ! (fld ! refl (hop ! (look-in ! 27 (sub ! 0 refl (whole !))) (stop !))))) (from ! (stop !)) (init ! 17 refl (tt, tt)) $
+          assigns ! (addr ! (from ! (fld ! refl (hop ! (look-in ! 33 (sub ! 0 refl (whole !))) (stop !))))) (from ! (stop !)) (init ! 21 refl (tt, tt)) $
+          assigns ! (agg ! (and-then ! (load ! (from ! (stop !)) (look ! 21 refl))
+          (and-then ! (load ! (from ! (fld ! refl (stop !))) (look-in ! 33 (sub ! 1 refl (whole !)))) (no-more !)))) (from ! (stop !))
+          (init ! 19 refl (tt, (tt, (record { fits = are .1 .1 .1 .1 .1 .1 .1 .1 .1 .1 .0 .0 .1 .0 }, tt)))) $
+          assigns ! (addr ! (from ! (fld ! refl (hop ! (look-in ! 31 (sub ! 0 refl (whole !))) (stop !))))) (from ! (stop !)) (init ! 17 refl (tt, tt)) $
           assigns ! (agg ! (and-then ! (load ! (from ! (stop !)) (look ! 17 refl))
-          (and-then ! (load ! (from ! (fld ! refl (stop !))) (look-in ! 27 (sub ! 1 refl (whole !)))) (no-more !)))) (from ! (stop !))
-          (init ! 15 refl (tt, (tt, (record { fits = are .1 .1 .1 .1 .1 .1 .1 .1 .1 .1 .0 .0 .1 .0 }, tt)))) $
-          assigns ! (addr ! (from ! (fld ! refl (hop ! (look-in ! 25 (sub ! 0 refl (whole !))) (stop !))))) (from ! (stop !)) (init ! 13 refl (tt, tt)) $
+          (and-then ! (load ! (from ! (fld ! refl (stop !))) (look-in ! 31 (sub ! 1 refl (whole !)))) (no-more !)))) (from ! (stop !))
+          (init ! 15 refl (tt, (tt, (record { fits = are .1 .1 .1 .1 .1 .1 .1 .1 .1 .1 .1 .0 .0 .1 .0 }, tt)))) $
+          assigns ! (addr ! (from ! (fld ! refl (hop ! (look-in ! 29 (sub ! 0 refl (whole !))) (stop !))))) (from ! (stop !)) (init ! 13 refl (tt, tt)) $
           assigns ! (agg ! (and-then ! (load ! (from ! (stop !)) (look ! 13 refl))
-          (and-then ! (load ! (from ! (fld ! refl (stop !))) (look-in ! 25 (sub ! 1 refl (whole !)))) (no-more !)))) (from ! (stop !))
-          (init ! 11 refl (tt, (tt, (record { fits = are .1 .1 .1 .1 .1 .1 .1 .1 .1 .1 .1 .0 .0 .1 .0 }, tt)))) $
-          assigns ! (addr ! (from ! (fld ! refl (hop ! (look-in ! 23 (sub ! 0 refl (whole !))) (stop !))))) (from ! (stop !)) (init ! 9 refl (tt, tt)) $
+          (and-then ! (load ! (from ! (fld ! refl (stop !))) (look-in ! 29 (sub ! 1 refl (whole !)))) (no-more !)))) (from ! (stop !))
+          (init ! 11 refl (tt, (tt, (record { fits = are .1 .1 .1 .1 .1 .1 .1 .1 .1 .1 .1 .1 .0 .0 .1 .0 }, tt)))) $
+          assigns ! (addr ! (from ! (fld ! refl (hop ! (look-in ! 27 (sub ! 0 refl (whole !))) (stop !))))) (from ! (stop !)) (init ! 9 refl (tt, tt)) $
           assigns ! (agg ! (and-then ! (load ! (from ! (stop !)) (look ! 9 refl))
-          (and-then ! (load ! (from ! (fld ! refl (stop !))) (look-in ! 23 (sub ! 1 refl (whole !)))) (no-more !)))) (from ! (stop !))
-          (init ! 7 refl (tt, (tt, (record { fits = are .1 .1 .1 .1 .1 .1 .1 .1 .1 .1 .1 .1 .0 .0 .1 .0 }, tt)))) $
+          (and-then ! (load ! (from ! (fld ! refl (stop !))) (look-in ! 27 (sub ! 1 refl (whole !)))) (no-more !)))) (from ! (stop !))
+          (init ! 7 refl (tt, (tt, (record { fits = are .1 .1 .1 .1 .1 .1 .1 .1 .1 .1 .1 .1 .1 .0 .0 .1 .0 }, tt)))) $
           -- the call
           move ! (0 ∷ 6 ∷ []) $ fjoin ! $ move ! (5 ∷ 0 ∷ []) $ join ! $ nothing ! $ move ! (1 ∷ 0 ∷ []) $ join ! $ use1 W (raw (Take .pre to-call)) (id⊢ 𝓤 _) $
-          calls-at ! (fmOf 𝓤 H (W .laws) 𝓣) Take known-take to-call (and-then ! (load ! (from ! (stop !)) (look ! 17 refl))
-          (and-then ! (load ! (from ! (stop !)) (look ! 43 refl)) (and-then ! (load ! (from ! (stop !)) (look ! 41 refl))
-          (and-then ! (load ! (from ! (stop !)) (look ! 39 refl)) (and-then ! (load ! (from ! (stop !)) (look ! 37 refl))
-          (and-then ! (load ! (from ! (stop !)) (look ! 35 refl)) (and-then ! (load ! (from ! (stop !)) (look ! 33 refl))
-          (and-then ! (load ! (from ! (stop !)) (look ! 31 refl)) (and-then ! (load ! (from ! (stop !)) (look ! 29 refl))
-          (and-then ! (load ! (from ! (stop !)) (look ! 27 refl)) (and-then ! (load ! (from ! (stop !)) (look ! 13 refl))
-          (and-then ! (load ! (from ! (stop !)) (look ! 9 refl)) (and-then ! (load ! (from ! (stop !)) (look ! 5 refl)) (no-more !)))))))))))))) (λ w.
-          use1 W (GivenBack w) (id⊢ 𝓤 _) $ await ! tt $ pick ! (λ r. split ! $ split ! $ move ! (2 ∷ []) $ pick ! (λ zs. split ! $ fsplit ! $ move ! (4 ∷ []) $
+          calls-at ! (fmOf 𝓤 H (W .laws) 𝓣) Take known-take to-call (and-then ! (load ! (from ! (stop !)) (look ! 21 refl))
+          (and-then ! (load ! (from ! (stop !)) (look ! 49 refl)) (and-then ! (load ! (from ! (stop !)) (look ! 47 refl))
+          (and-then ! (load ! (from ! (stop !)) (look ! 45 refl)) (and-then ! (load ! (from ! (stop !)) (look ! 43 refl))
+          (and-then ! (load ! (from ! (stop !)) (look ! 41 refl)) (and-then ! (load ! (from ! (stop !)) (look ! 39 refl))
+          (and-then ! (load ! (from ! (stop !)) (look ! 37 refl)) (and-then ! (load ! (from ! (stop !)) (look ! 35 refl))
+          (and-then ! (load ! (from ! (stop !)) (look ! 33 refl)) (and-then ! (load ! (from ! (stop !)) (look ! 17 refl))
+          (and-then ! (load ! (from ! (stop !)) (look ! 13 refl)) (and-then ! (load ! (from ! (stop !)) (look ! 9 refl))
+          (and-then ! (load ! (from ! (stop !)) (look ! 5 refl)) (no-more !))))))))))))))) (λ w. use1 W (GivenBack w) (id⊢ 𝓤 _) $ await ! tt $ pick ! (λ r.
+          split ! $ split ! $ move ! (2 ∷ []) $ pick ! (λ zs. split ! $ fsplit ! $ move ! (4 ∷ []) $
           peeks ! U.the-row (Is U.the-row) (shows 𝓤 H A U.the-row) r (w ∷ []) (λ is. land ! (from ! (stop !))
-          (init ! 23 refl (LL.lawful U.the-type U′.the-laws 𝓤 H A W .typed r _ is .0)) $ rewrite ! 23 (λ (u : Val). ‵ (fat fullShare U′.mir l14 0 u))
+          (init ! 27 refl (LL.lawful U.the-type U′.the-laws 𝓤 H A W .typed r _ is .0)) $ rewrite ! 27 (λ (u : Val). ‵ (fat fullShare U′.mir l15 0 u))
           (ap only (LL.tells U.the-type U′.the-laws r (w ∷ []) is)) refl $
           -- the receiver is stored, and the borrow is closed at it
-          assigns ! (of-opd ! (load ! (from ! (fld ! refl (stop !))) (look-in ! 23 (sub ! 0 refl (whole !))))) (from ! (hop ! (look ! 49 refl) (stop !)))
+          assigns ! (of-opd ! (load ! (from ! (fld ! refl (stop !))) (look-in ! 27 (sub ! 0 refl (whole !))))) (from ! (hop ! (look ! 55 refl) (stop !)))
           (store ! 5 refl (LL.lawful T.the-type T′.the-laws 𝓤 H A W .typed (r .receiver) _ (receiver-is r w is) .0)) $
-          assigns ! (of-opd ! (load ! (from ! (fld ! refl (stop !))) (look-in ! 23 (sub ! 1 refl (whole !))))) (from ! (stop !))
-          (init ! 51 refl (tt, record { fits = answer-fits r w is })) $
+          assigns ! (of-opd ! (load ! (from ! (fld ! refl (stop !))) (look-in ! 27 (sub ! 1 refl (whole !))))) (from ! (stop !))
+          (init ! 57 refl (tt, record { fits = answer-fits r w is })) $
           owned ! T.the-row (Is T.the-row) (LL.makes T.the-type T′.the-plain 𝓤 H A) (r .receiver) _ (receiver-is r w is) $ move ! (6 ∷ []) $
           use1 W (‵ (raw-cell (r .receiver))) (W .laws .at-raw _ _ _ _ _) $ move ! (0 ∷ 1 ∷ 7 ∷ 8 ∷ 9 ∷ []) $
           closes ! tt T.the-row (r .receiver) (mach (r .receiver) ∷ []) _ _ $ use1 W (‵ (last (r .receiver))) (W .names .obs-res _ _) $
           -- the answer is returned, and the locals are freed
-          returns ! (look ! 50 refl) $ forget ! 50 refl $ forget ! 48 refl $ forget ! 46 refl $ forget ! 44 refl $ forget ! 42 refl $ forget ! 40 refl $
-          forget ! 38 refl $ forget ! 36 refl $ forget ! 34 refl $ forget ! 32 refl $ forget ! 30 refl $ forget ! 28 refl $ forget ! 26 refl $
-          forget ! 24 refl $ forget ! 22 refl $ forget ! 20 refl $ forget ! 18 refl $ forget ! 16 refl $ forget ! 14 refl $ forget ! 12 refl $
-          forget ! 10 refl $ forget ! 8 refl $ move ! (50 ∷ 51 ∷ 48 ∷ 49 ∷ 46 ∷ 47 ∷ 44 ∷ 45 ∷ 42 ∷ 43 ∷ 40 ∷ 41 ∷ 38 ∷ 39 ∷ 36 ∷ 37 ∷ 34 ∷ 35 ∷ 32 ∷ 33 ∷ 30 ∷
-          31 ∷ 28 ∷ 29 ∷ 26 ∷ 27 ∷ 24 ∷ 25 ∷ 22 ∷ 23 ∷ 20 ∷ 21 ∷ 18 ∷ 19 ∷ 16 ∷ 17 ∷ 14 ∷ 15 ∷ 12 ∷ 13 ∷ 10 ∷ 11 ∷ 8 ∷ 9 ∷ []) $ free1 ! $ free1 ! $ free1 ! $
+          returns ! (look ! 56 refl) $ forget ! 56 refl $ forget ! 54 refl $ forget ! 52 refl $ forget ! 50 refl $ forget ! 48 refl $ forget ! 46 refl $
+          forget ! 44 refl $ forget ! 42 refl $ forget ! 40 refl $ forget ! 38 refl $ forget ! 36 refl $ forget ! 34 refl $ forget ! 32 refl $
+          forget ! 30 refl $ forget ! 28 refl $ forget ! 26 refl $ forget ! 24 refl $ forget ! 22 refl $ forget ! 20 refl $ forget ! 18 refl $
+          forget ! 16 refl $ forget ! 14 refl $ forget ! 12 refl $ forget ! 10 refl $ forget ! 8 refl $ move ! (56 ∷ 57 ∷ 54 ∷ 55 ∷ 52 ∷ 53 ∷ 50 ∷ 51 ∷ 48 ∷
+          49 ∷ 46 ∷ 47 ∷ 44 ∷ 45 ∷ 42 ∷ 43 ∷ 40 ∷ 41 ∷ 38 ∷ 39 ∷ 36 ∷ 37 ∷ 34 ∷ 35 ∷ 32 ∷ 33 ∷ 30 ∷ 31 ∷ 28 ∷ 29 ∷ 26 ∷ 27 ∷ 24 ∷ 25 ∷ 22 ∷ 23 ∷ 20 ∷ 21 ∷ 18 ∷
+          19 ∷ 16 ∷ 17 ∷ 14 ∷ 15 ∷ 12 ∷ 13 ∷ 10 ∷ 11 ∷ 8 ∷ 9 ∷ []) $ free1 ! $ free1 ! $ free1 ! $ free1 ! $ free1 ! $ free1 ! $ free1 ! $ free1 ! $ free1 ! $
           free1 ! $ free1 ! $ free1 ! $ free1 ! $ free1 ! $ free1 ! $ free1 ! $ free1 ! $ free1 ! $ free1 ! $ free1 ! $ free1 ! $ free1 ! $ free1 ! $ free1 ! $
-          free1 ! $ free1 ! $ free1 ! $ free1 ! $ free0 ! $
+          free1 ! $ free0 ! $
           -- the exit
           keep ! (2 ∷ 7 ∷ 0 ∷ 5 ∷ 6 ∷ []) $ join ! $ updating ! $ at-once ! $ show ! (Answers (vint w64 (r .answer))) (r .answer) $
           owned ! u64 (Is u64) (uint-makes 𝓤 H A W w64) (r .answer) _ (refl, answer-fits r w is) $ move ! (1 ∷ 0 ∷ []) $ join ! $ frame ! $
-          show ! (Ends (r .answer)) (r .receiver, zs .1) $ fjoin ! $ done !)))))))))))))))))))))))))))))
+          show ! (Ends (r .answer)) (r .receiver, zs .1) $ fjoin ! $ done !))))))))))))))))))))))))))))))))
 
     meets : Triple 𝓤 (WpFn 𝓤 H (𝓣 .C) (𝓣 .Λ) code.function) Own
     meets y = via 𝓤 _ (fst∗ 𝓤 _ (emp 𝓤)) (walk (y .0 .0) (y .0 .1) (y .0 .3) (y .0 .4))

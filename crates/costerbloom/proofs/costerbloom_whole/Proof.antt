@@ -6,7 +6,7 @@ use Rattle.costerbloom.proofs.costerbloom_whole.Tie as tie
 
 returns : tie.Need-returns
 unfolding wholeNumbers
-returns c = rw (c .packed .ensures, ← c .before .before .before .before .before .before .before .before .settings .ensures) (ap leftNumbers (c .before .before .before .before .before .whole-message .ensures))
+returns c = rw (c .packed .ensures, ← c .before .before .before .before .before .before .before .before .before .before .before .settings .ensures) (ap leftNumbers (c .before .before .before .before .before .before .before .whole-message .ensures))
 
 pub costerbloom-whole-spec : {M : Type 1} → statement M
 costerbloom-whole-spec =
@@ -15,6 +15,7 @@ costerbloom-whole-spec =
     (λ c κs. search needs)
     (λ c κs. search needs)
     (λ c κs. search needs)
+    (λ c. search needs)
     (λ c. search needs)
     (λ c. search needs)
     returns)

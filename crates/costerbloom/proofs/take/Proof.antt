@@ -6,7 +6,7 @@ use Rattle.costerbloom.proofs.take.Tie as tie
 
 returns : tie.Need-returns
 unfolding takeNumbers
-returns c = rw (c .packed .ensures, ← c .before .before .before .before .before .before .before .before .before .before .before .before .settings .ensures) (ap tookNumbers (c .before .before .before .before .before .before .before .before .take-byte .ensures))
+returns c = rw (c .packed .ensures, ← c .before .before .before .before .before .before .before .before .before .before .before .before .before .before .before .settings .ensures) (ap tookNumbers (c .before .before .before .before .before .before .before .before .before .before .take-byte .ensures))
 
 pub take-spec : {M : Type 1} → statement M
 take-spec =
@@ -15,6 +15,7 @@ take-spec =
     (λ c κs. search needs)
     (λ c κs. search needs)
     (λ c κs. search needs)
+    (λ c. search needs)
     (λ c. search needs)
     (λ c. search needs)
     (λ c. search needs)

@@ -311,15 +311,15 @@ module _ {M : Type 1} (𝓤 : URA M) (H : Heap 𝓤) (A : Atoms 𝓤) (at-mem : 
             left-from = rw (add-one, slice-cons (t .i) (c .count) moves none within listed)
 
         -- at the end no move is left, and what was made is what is promised
-        kept : (t : State) → c .count ≤ t .i → left (c .answer) (heldOf (t .d .memory)) (t .d .numbers) ≡ movesNumbers kind (settingsOf channel omni revision0 revision1 revision2 revision3) moves (heldOf (memory .now)) (numbers .now)
-        kept t over =
+        kept : (t : State) → c .count ≤ t .i → (marks : List ℕ) → left (c .answer) (heldOf (t .d .memory) marks) (t .d .numbers) ≡ movesNumbers kind (settingsOf channel omni revision0 revision1 revision2 revision3) moves (heldOf (memory .now) marks) (numbers .now)
+        kept t over marks =
             let upto = t .upto in
             let at-end : t .i ≡ c .count = omega (arith, upto, over) in
             let none-left : slice (t .i) (c .count) moves ≡ [] = rw (at-end, slice-empty (c .count) moves) in
             let made : t .d ≡ all 0 (take (c .count) moves) begun = sym (ap (λ (l : List Move). all (t .i) l (t .d)) none-left) ∙ t .gets in
-            ap (λ (d : Buffers). left (c .answer) (heldOf (d .memory)) (d .numbers)) made
-            ∙ ap (λ (r : Allowed). let d = all 0 (take (r .count) moves) begun in left (r .answer) (heldOf (d .memory)) (d .numbers)) e
-            ∙ promised kind (settingsOf channel omni revision0 revision1 revision2 revision3) moves (memory .now) (numbers .now)
+            ap (λ (d : Buffers). left (c .answer) (heldOf (d .memory) marks) (d .numbers)) made
+            ∙ ap (λ (r : Allowed). let d = all 0 (take (r .count) moves) begun in left (r .answer) (heldOf (d .memory) marks) (d .numbers)) e
+            ∙ promised kind (settingsOf channel omni revision0 revision1 revision2 revision3) moves (memory .now) (numbers .now) marks
 
         module _ (l0 l1 l2 l3 l4 l5 l6 l7 l8 l9 l10 l11 l12 l13 l14 l15 l16 l17 l18 l19 l20 l21 l22 l23 l24 l25 : ℕ) where
           abbrev En : Env 𝓤 H

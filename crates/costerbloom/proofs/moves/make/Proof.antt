@@ -1,5 +1,6 @@
 -- The number that is noted is that of what the move did.
 use denote.Ref.{now}
+use mathlib.Core.List.{[]}
 use mathlib.Core.Path.{ap}
 use lib.ListN.{set}
 use Rattle.sysex.specs.Carrying.{Outcome}
@@ -15,7 +16,7 @@ returns c =
     let k = c .before .before .before in
     let a = k .before .before .before .before .before .args in
     rw (← k .before .before .kind-of .ensures, c .answer-number .ensures)
-    (ap (λ (o : Outcome). buffers (o .held .memory) (set (now (a .numbers)) (a .place) (answerNumber (o .answer)))) (k .make-move .ensures))
+    (ap (λ (o : Outcome). buffers (o .held .memory) (set (now (a .numbers)) (a .place) (answerNumber (o .answer)))) (k .make-move .ensures []))
 
 pub make-spec : {M : Type 1} → statement M
 make-spec =
