@@ -1,17 +1,16 @@
--- Laws of programs with their spare bytes and without them, over any size and any number of them; of marks; and of parts put one behind the other.
+-- Laws of programs with their spare bytes and without them, over any size and any number of them, and of marks.
 use Prim.Native.Nat.{ℕ, zero, suc, _+_, _-_, _*_, _≤_, _<_}
-use mathlib.Core.Bool.{true, false, _&&_}
-use mathlib.Core.List.{List, [], _∷_, _++_, append-assoc}
+use mathlib.Core.Bool.{true, false}
+use mathlib.Core.List.{List, [], _∷_, _++_}
 use mathlib.Core.Path.{_≡_, refl, sym, ap, _∙_}
 use native.Mathlib.Nat.{zero-mul, suc-mul}
 use native.Mathlib.Omega.{arith}
 use lib.ListN.{length, getD, take, drop, set, replicate, length-append, length-drop, drop-of-length-le, take-append-drop}
-use lib.Seq.{length-take-le, take-all, take-at, drop-at, drop-drop, append-snoc, set-split}
+use lib.Seq.{length-take-le, take-all, take-at, drop-at, drop-drop, append-snoc}
 use borrow.Author.Tests.{ne-eqb, eq-eqb}
 use Rattle.ground.specs.Lists.{allAtMost}
 use Rattle.ground.proofs.AtMost.{at-most-take, at-most-drop, at-most-append}
 use Rattle.ground.proofs.Lists.{drop-one}
-use Rattle.programs.specs.Memory.{putPart}
 use Rattle.programs.specs.Spares.{withSpares, withoutSpares, allSet}
 
 module _ (size : ℕ) (some : 1 ≤ size) where

@@ -35,13 +35,7 @@ pub(crate) fn split_short(
 }
 
 // The bytes of half bytes, into memory from a place on, with a 0 behind those of each program.
-pub(crate) fn join_short(
-    halves: &[u8],
-    slots: usize,
-    size: usize,
-    place: usize,
-    memory: &mut [u8],
-)
+pub(crate) fn join_short(halves: &[u8], slots: usize, size: usize, place: usize, memory: &mut [u8])
     requires { ⌜ (1 ≤ size) × (length (now halves) ≡ 2 * (slots * (size - 1))) ⌝ }
     requires { ⌜ allHalves (now halves) ≡ true ⌝ }
     requires { ⌜ place + slots * size ≤ length (now memory) ⌝ }

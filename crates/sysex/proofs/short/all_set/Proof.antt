@@ -1,41 +1,30 @@
+-- The marks are all set where those that are left are.
+use Prim.Native.Nat.{_≤_, _-_}
+use mathlib.Core.Path.{_≡_, refl}
+use lib.ListN.{length, drop}
+use Rattle.programs.specs.Spares.{allSet}
+use Rattle.programs.proofs.Spares.{not-set, set-turn, set-end}
+use borrow.Author.Needs.{needs}
 use Rattle.sysex.proofs.short.all_set.Statement.{statement}
 use Rattle.sysex.proofs.short.all_set.Tie as tie
-use Rattle.sysex.proofs.short.all_set.Reads as reads
-use Rattle.sysex.proofs.short.all_set.Lts as lts
 
 abbrev Inv-loop : tie.InvT-loop
-Inv-loop marks i₀ i = ?
+Inv-loop marks i₀ i = (i ≤ length marks) × (allSet (drop i marks) ≡ allSet marks)
 
 abbrev μ-loop : tie.MeasureT-loop
-μ-loop marks i₀ i = ?
+μ-loop marks i₀ i = length marks - i
 
--- src/short.rt:69:5
 loop-holds : tie.Need-loop-holds Inv-loop μ-loop
-loop-holds c = ?
+loop-holds c = (search needs, refl)
 
--- src/short.rt:70:12
-shared-slice-read-if1 : tie.Need-shared-slice-read-if1 Inv-loop μ-loop
-shared-slice-read-if1 c = ?
-
--- src/short.rt:71:13
 returns : tie.Need-returns Inv-loop μ-loop
-returns c = ?
+returns c = not-set _ _ (c .before .before .before .loop .inv .1) (c .before .before .loop-test .taken) (c .if1 .taken)
 
--- src/short.rt:73:9
-add-i : tie.Need-add-i Inv-loop μ-loop
-add-i c = ?
-
--- src/short.rt:69:5
-loop-less : tie.Need-loop-less Inv-loop μ-loop
-loop-less c = ?
-
--- src/short.rt:69:5
 loop-again : tie.Need-loop-again Inv-loop μ-loop
-loop-again c = ?
+loop-again c = (search needs, set-turn _ _ (c .before .before .before .loop .inv .1) (c .before .before .loop-test .taken) (c .if1 .left))
 
--- src/short.rt:65:1
 returns-2 : tie.Need-returns-2 Inv-loop μ-loop
-returns-2 c = ?
+returns-2 c = set-end _ _ (c .before .loop .inv .1) (c .loop-test .left)
 
 pub all-set-spec : {M : Type 1} → statement M
 all-set-spec =
@@ -44,9 +33,9 @@ all-set-spec =
     Inv-loop
     μ-loop
     loop-holds
-    shared-slice-read-if1
+    (λ c. search needs)
     returns
-    add-i
-    loop-less
+    (λ c. search needs)
+    (λ c. search needs)
     loop-again
     returns-2)

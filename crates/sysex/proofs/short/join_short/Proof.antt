@@ -1,94 +1,85 @@
+-- The programs that are left, put behind those that are stored, are all of them.
+use denote.Ref.{now}
+use Prim.Native.Nat.{_+_, _-_, _*_}
+use mathlib.Core.Path.{_≡_, refl, _∙_}
+use native.Mathlib.Omega.{arith}
+use lib.ListN.{length, drop, length-set}
+use Rattle.ground.proofs.AtMost.{at-most-take, at-most-drop}
+use Rattle.halves.specs.HalfBytes.{join}
+use Rattle.halves.proofs.Laws.{join-leaves}
+use Rattle.programs.specs.Memory.{putPart}
+use Rattle.programs.specs.Spares.{withSpares}
+use Rattle.sysex.proofs.Turns.{one-less, lent-fit, lent-back, join-turn, join-end}
+use borrow.Author.Needs.{needs}
 use Rattle.sysex.proofs.short.join_short.Statement.{statement}
 use Rattle.sysex.proofs.short.join_short.Tie as tie
-use Rattle.sysex.proofs.short.join_short.Reads as reads
-use Rattle.sysex.proofs.short.join_short.Lts as lts
-use Rattle.halves.proofs.join_into.Reads as join-into-reads
 
 abbrev Inv-loop : tie.InvT-loop
-Inv-loop halves slots size place memory₀ from₀ to₀ left₀ memory from to left = ?
+Inv-loop halves slots size place memory₀ from₀ to₀ left₀ memory from to left =
+    (from + 2 * (left * (size - 1)) ≡ length halves)
+    × (to + left * size ≡ place + slots * size)
+    × (length memory ≡ length memory₀)
+    × (putPart to (left * size) (withSpares size left (join (drop from halves))) memory
+    ≡ putPart place (slots * size) (withSpares size slots (join halves)) memory₀)
 
 abbrev μ-loop : tie.MeasureT-loop
-μ-loop halves slots size place memory₀ from₀ to₀ left₀ memory from to left = ?
+μ-loop halves slots size place memory₀ from₀ to₀ left₀ memory from to left = left
 
--- src/short.rt:53:5
 loop-holds : tie.Need-loop-holds Inv-loop μ-loop
-loop-holds c = ?
+loop-holds c = (omega arith, refl, refl, refl)
 
--- src/short.rt:54:31
-sub-end : tie.Need-sub-end Inv-loop μ-loop
-sub-end c = ?
-
--- src/short.rt:54:26
 mul-end : tie.Need-mul-end Inv-loop μ-loop
-mul-end c = ?
+mul-end c = omega (arith, one-less (c .before .loop .left) (c .before .before .before .before .args .size - 1) (c .loop-test .taken))
 
--- src/short.rt:54:19
 add-end : tie.Need-add-end Inv-loop μ-loop
-add-end c = ?
+add-end c = omega (arith, one-less (c .before .loop .left) (c .before .before .before .before .args .size - 1) (c .loop-test .taken))
 
--- src/short.rt:55:27
-sub-spare : tie.Need-sub-spare Inv-loop μ-loop
-sub-spare c = ?
-
--- src/short.rt:55:21
 add-spare : tie.Need-add-spare Inv-loop μ-loop
-add-spare c = ?
+add-spare c = omega (arith, one-less (c .before .loop .left) (c .before .before .before .before .args .size) (c .loop-test .taken))
 
--- src/short.rt:56:27
-sub-join-into : tie.Need-sub-join-into Inv-loop μ-loop
-sub-join-into c = ?
-
--- src/short.rt:56:27
-part-join-into-start : tie.Need-part-join-into-start Inv-loop μ-loop
-part-join-into-start c = ?
-
--- src/short.rt:56:27
 part-join-into-end : tie.Need-part-join-into-end Inv-loop μ-loop
-part-join-into-end c = ?
+part-join-into-end c = omega (arith, one-less (c .before .loop .left) (c .before .before .before .before .args .size - 1) (c .loop-test .taken))
 
--- src/short.rt:56:47
-sub-join-into-2 : tie.Need-sub-join-into-2 Inv-loop μ-loop
-sub-join-into-2 c = ?
-
--- src/short.rt:56:47
-part-join-into-start-2 : tie.Need-part-join-into-start-2 Inv-loop μ-loop
-part-join-into-start-2 c = ?
-
--- src/short.rt:56:47
 part-join-into-end-2 : tie.Need-part-join-into-end-2 Inv-loop μ-loop
-part-join-into-end-2 c = ?
+part-join-into-end-2 c = omega (arith, one-less (c .before .before .loop .left) (c .before .before .before .before .before .args .size) (c .before .loop-test .taken))
 
--- src/short.rt:56:9
-join-into-requires : tie.Need-join-into-requires Inv-loop μ-loop
-join-into-requires c κs = ?
-
--- src/short.rt:57:9
 slice-write-memory : tie.Need-slice-write-memory Inv-loop μ-loop
-slice-write-memory c = ?
+slice-write-memory c =
+    let k = c .before .before .before .before .before in
+    let l = k .before .loop in
+    let a = k .before .before .before .before .args in
+    let long = one-less (l .left) (a .size) (k .loop-test .taken) in
+    let kept = lent-back (l .to) (a .size - 1) (c .before .before .join-into .last .1 .0) (l .memory) (omega arith) (c .before .before .join-into .kept .1 .0) in
+    omega arith
 
--- src/short.rt:59:14
 add-to : tie.Need-add-to Inv-loop μ-loop
-add-to c = ?
+add-to c =
+    let k = c .before .before .before .before .before in
+    omega (arith, one-less (k .before .loop .left) (k .before .before .before .before .args .size) (k .loop-test .taken))
 
--- src/short.rt:60:9
-sub-left : tie.Need-sub-left Inv-loop μ-loop
-sub-left c = ?
-
--- src/short.rt:53:5
-loop-less : tie.Need-loop-less Inv-loop μ-loop
-loop-less c = ?
-
--- src/short.rt:53:5
 loop-again : tie.Need-loop-again Inv-loop μ-loop
-loop-again c = ?
+loop-again c =
+    let k = c .before .before .before .before .before in
+    let l = k .before .loop in
+    let s = k .before .before .before .before in
+    let a = s .args in
+    let n = a .size - 1 in
+    let long = one-less (l .left) (a .size) (k .loop-test .taken) in
+    let short = one-less (l .left) n (k .loop-test .taken) in
+    let fit = lent-fit (l .to) (l .from) n (l .memory) (now (a .halves)) (omega arith) (omega arith) in
+    let low = at-most-take 15 (l .from + 2 * n - l .from) (drop (l .from) (now (a .halves))) (at-most-drop 15 (l .from) (now (a .halves)) (s .pre .1 .0)) in
+    let bytes = join-leaves _ _ _ _ (c .before .before .join-into .ensures) fit low in
+    let kept = lent-back (l .to) n (c .before .before .join-into .last .1 .0) (l .memory) (omega arith) (c .before .before .join-into .kept .1 .0) in (
+      omega arith,
+      omega arith,
+      simp length-set (kept ∙ l .inv .2),
+      join-turn (now (a .halves)) (a .size) (l .left) (l .from) (l .to) _ (l .memory) _ (omega arith) (k .loop-test .taken) (l .inv .0) (omega arith) bytes (l .inv .3),
+    )
 
--- src/short.rt:38:1
-same-length : tie.Need-same-length Inv-loop μ-loop
-same-length c = ?
-
--- src/short.rt:38:1
 returns : tie.Need-returns Inv-loop μ-loop
-returns c = ?
+returns c =
+    let l = c .before .loop in
+    join-end (c .before .before .before .before .args .size) (l .left) (l .to) _ (l .memory) _ (c .loop-test .left) (l .inv .3)
 
 pub join-short-spec : {M : Type 1} → statement M
 join-short-spec =
@@ -97,22 +88,22 @@ join-short-spec =
     Inv-loop
     μ-loop
     loop-holds
-    sub-end
+    (λ c. search needs)
     mul-end
     add-end
-    sub-spare
+    (λ c. search needs)
     add-spare
-    sub-join-into
-    part-join-into-start
+    (λ c. search needs)
+    (λ c. search needs)
     part-join-into-end
-    sub-join-into-2
-    part-join-into-start-2
+    (λ c. search needs)
+    (λ c. search needs)
     part-join-into-end-2
-    join-into-requires
+    (λ c κs. search needs)
     slice-write-memory
     add-to
-    sub-left
-    loop-less
+    (λ c. search needs)
+    (λ c. search needs)
     loop-again
-    same-length
+    (λ c. search needs)
     returns)

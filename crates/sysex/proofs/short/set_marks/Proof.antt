@@ -1,45 +1,32 @@
+-- The marks that are left, put behind those that are written, are all of them.
+use Prim.Native.Nat.{_≤_, _+_}
+use mathlib.Core.Path.{_≡_, refl}
+use native.Mathlib.Omega.{arith}
+use lib.ListN.{length, replicate, length-set}
+use Rattle.programs.specs.Memory.{putPart}
+use Rattle.sysex.proofs.Turns.{mark-turn, mark-end}
+use borrow.Author.Needs.{needs}
 use Rattle.sysex.proofs.short.set_marks.Statement.{statement}
 use Rattle.sysex.proofs.short.set_marks.Tie as tie
-use Rattle.sysex.proofs.short.set_marks.Reads as reads
-use Rattle.sysex.proofs.short.set_marks.Lts as lts
 
 abbrev Inv-loop : tie.InvT-loop
-Inv-loop marks₀ slot slots mark at₀ left₀ marks at left = ?
+Inv-loop marks₀ slot slots mark at₀ left₀ marks at left =
+    (at + left ≤ length marks₀) × (length marks ≡ length marks₀)
+    × (putPart at left (replicate left mark) marks ≡ putPart slot slots (replicate slots mark) marks₀)
 
 abbrev μ-loop : tie.MeasureT-loop
-μ-loop marks₀ slot slots mark at₀ left₀ marks at left = ?
+μ-loop marks₀ slot slots mark at₀ left₀ marks at left = left
 
--- src/short.rt:85:5
 loop-holds : tie.Need-loop-holds Inv-loop μ-loop
-loop-holds c = ?
+loop-holds c = (search needs, refl, refl)
 
--- src/short.rt:86:9
-slice-write-marks : tie.Need-slice-write-marks Inv-loop μ-loop
-slice-write-marks c = ?
-
--- src/short.rt:87:9
-add-at : tie.Need-add-at Inv-loop μ-loop
-add-at c = ?
-
--- src/short.rt:88:9
-sub-left : tie.Need-sub-left Inv-loop μ-loop
-sub-left c = ?
-
--- src/short.rt:85:5
-loop-less : tie.Need-loop-less Inv-loop μ-loop
-loop-less c = ?
-
--- src/short.rt:85:5
 loop-again : tie.Need-loop-again Inv-loop μ-loop
-loop-again c = ?
+loop-again c =
+    let l = c .before .loop in
+    (omega arith, simp length-set (l .inv .1), mark-turn (l .left) (l .at) _ (l .marks) _ (c .loop-test .taken) (omega arith) (l .inv .2))
 
--- src/short.rt:79:1
-same-length : tie.Need-same-length Inv-loop μ-loop
-same-length c = ?
-
--- src/short.rt:79:1
 returns : tie.Need-returns Inv-loop μ-loop
-returns c = ?
+returns c = let l = c .before .loop in mark-end (l .left) (l .at) _ (l .marks) _ (c .loop-test .left) (l .inv .2)
 
 pub set-marks-spec : {M : Type 1} → statement M
 set-marks-spec =
@@ -48,10 +35,10 @@ set-marks-spec =
     Inv-loop
     μ-loop
     loop-holds
-    slice-write-marks
-    add-at
-    sub-left
-    loop-less
+    (λ c. search needs)
+    (λ c. search needs)
+    (λ c. search needs)
+    (λ c. search needs)
     loop-again
-    same-length
+    (λ c. search needs)
     returns)

@@ -1,90 +1,71 @@
+-- The half bytes of the programs that are left, put behind those that are written, are those of all programs.
+use denote.Ref.{now}
+use Prim.Native.Nat.{_+_, _-_, _*_}
+use mathlib.Core.Path.{_≡_, refl, _∙_}
+use native.Mathlib.Omega.{arith}
+use lib.ListN.{length, drop}
+use Rattle.halves.specs.HalfBytes.{split}
+use Rattle.halves.proofs.Laws.{split-leaves}
+use Rattle.programs.specs.Memory.{putPart}
+use Rattle.programs.specs.Spares.{withoutSpares}
+use Rattle.sysex.proofs.Turns.{one-less, none-left, lent-fit, lent-back, split-turn, split-end}
+use borrow.Author.Needs.{needs}
 use Rattle.sysex.proofs.short.split_short.Statement.{statement}
 use Rattle.sysex.proofs.short.split_short.Tie as tie
-use Rattle.sysex.proofs.short.split_short.Reads as reads
-use Rattle.sysex.proofs.short.split_short.Lts as lts
-use Rattle.halves.proofs.split_into.Reads as split-into-reads
 
 abbrev Inv-loop : tie.InvT-loop
-Inv-loop part slots size place reply₀ from₀ to₀ left₀ reply from to left = ?
+Inv-loop part slots size place reply₀ from₀ to₀ left₀ reply from to left =
+    (from + left * size ≡ length part)
+    × (to + 2 * (left * (size - 1)) ≡ place + 2 * (slots * (size - 1)))
+    × (length reply ≡ length reply₀)
+    × (putPart to (2 * (left * (size - 1))) (split (withoutSpares size left (drop from part))) reply
+    ≡ putPart place (2 * (slots * (size - 1))) (split (withoutSpares size slots part)) reply₀)
 
 abbrev μ-loop : tie.MeasureT-loop
-μ-loop part slots size place reply₀ from₀ to₀ left₀ reply from to left = ?
+μ-loop part slots size place reply₀ from₀ to₀ left₀ reply from to left = left
 
--- src/short.rt:26:5
 loop-holds : tie.Need-loop-holds Inv-loop μ-loop
-loop-holds c = ?
+loop-holds c = (omega arith, refl, refl, refl)
 
--- src/short.rt:27:27
-sub-end : tie.Need-sub-end Inv-loop μ-loop
-sub-end c = ?
-
--- src/short.rt:27:19
 add-end : tie.Need-add-end Inv-loop μ-loop
-add-end c = ?
+add-end c = omega (arith, one-less (c .before .loop .left) (c .before .before .before .before .args .size) (c .loop-test .taken))
 
--- src/short.rt:28:30
-sub-next : tie.Need-sub-next Inv-loop μ-loop
-sub-next c = ?
-
--- src/short.rt:28:25
 mul-next : tie.Need-mul-next Inv-loop μ-loop
-mul-next c = ?
+mul-next c = omega (arith, one-less (c .before .loop .left) (c .before .before .before .before .args .size - 1) (c .loop-test .taken))
 
--- src/short.rt:28:20
 add-next : tie.Need-add-next Inv-loop μ-loop
-add-next c = ?
+add-next c = omega (arith, one-less (c .before .loop .left) (c .before .before .before .before .args .size - 1) (c .loop-test .taken))
 
--- src/short.rt:29:28
-sub-split-into : tie.Need-sub-split-into Inv-loop μ-loop
-sub-split-into c = ?
-
--- src/short.rt:29:28
-part-split-into-start : tie.Need-part-split-into-start Inv-loop μ-loop
-part-split-into-start c = ?
-
--- src/short.rt:29:28
 part-split-into-end : tie.Need-part-split-into-end Inv-loop μ-loop
-part-split-into-end c = ?
+part-split-into-end c = omega (arith, one-less (c .before .loop .left) (c .before .before .before .before .args .size) (c .loop-test .taken))
 
--- src/short.rt:29:46
-sub-split-into-2 : tie.Need-sub-split-into-2 Inv-loop μ-loop
-sub-split-into-2 c = ?
-
--- src/short.rt:29:46
-part-split-into-start-2 : tie.Need-part-split-into-start-2 Inv-loop μ-loop
-part-split-into-start-2 c = ?
-
--- src/short.rt:29:46
 part-split-into-end-2 : tie.Need-part-split-into-end-2 Inv-loop μ-loop
-part-split-into-end-2 c = ?
+part-split-into-end-2 c = omega (arith, one-less (c .before .before .loop .left) (c .before .before .before .before .before .args .size - 1) (c .before .loop-test .taken))
 
--- src/short.rt:29:9
-split-into-requires : tie.Need-split-into-requires Inv-loop μ-loop
-split-into-requires c κs = ?
-
--- src/short.rt:30:9
 add-from : tie.Need-add-from Inv-loop μ-loop
-add-from c = ?
+add-from c =
+    let k = c .before .before .before .before .before in
+    omega (arith, one-less (k .before .loop .left) (k .before .before .before .before .args .size) (k .loop-test .taken))
 
--- src/short.rt:32:9
-sub-left : tie.Need-sub-left Inv-loop μ-loop
-sub-left c = ?
-
--- src/short.rt:26:5
-loop-less : tie.Need-loop-less Inv-loop μ-loop
-loop-less c = ?
-
--- src/short.rt:26:5
 loop-again : tie.Need-loop-again Inv-loop μ-loop
-loop-again c = ?
+loop-again c =
+    let k = c .before .before .before .before .before in
+    let l = k .before .loop in
+    let a = k .before .before .before .before .args in
+    let long = one-less (l .left) (a .size) (k .loop-test .taken) in
+    let short = one-less (l .left) (a .size - 1) (k .loop-test .taken) in
+    let halves = split-leaves _ _ _ _ (c .before .before .split-into .ensures) (lent-fit (l .from) (l .to) (a .size - 1) (now (a .part)) (l .reply) (omega arith) (omega arith)) in (
+      omega arith,
+      omega arith,
+      lent-back (l .to) (2 * (a .size - 1)) (c .before .before .split-into .last .1 .0) (l .reply) (omega arith) (c .before .before .split-into .kept .1 .0) ∙ l .inv .2,
+      split-turn (now (a .part)) (a .size) (l .left) (l .from) (l .to) _ (l .reply) _ (omega arith) (k .loop-test .taken) (l .inv .0) (omega arith) halves (l .inv .3),
+    )
 
--- src/short.rt:11:1
-same-length : tie.Need-same-length Inv-loop μ-loop
-same-length c = ?
-
--- src/short.rt:11:1
 returns : tie.Need-returns Inv-loop μ-loop
-returns c = ?
+returns c =
+    let l = c .before .loop in
+    let a = c .before .before .before .before .args in
+    (omega (arith, none-left (l .left) (a .size - 1) (c .loop-test .left)), split-end (a .size) (l .left) (l .to) _ (l .reply) _ (c .loop-test .left) (l .inv .3))
 
 pub split-short-spec : {M : Type 1} → statement M
 split-short-spec =
@@ -93,21 +74,21 @@ split-short-spec =
     Inv-loop
     μ-loop
     loop-holds
-    sub-end
+    (λ c. search needs)
     add-end
-    sub-next
+    (λ c. search needs)
     mul-next
     add-next
-    sub-split-into
-    part-split-into-start
+    (λ c. search needs)
+    (λ c. search needs)
     part-split-into-end
-    sub-split-into-2
-    part-split-into-start-2
+    (λ c. search needs)
+    (λ c. search needs)
     part-split-into-end-2
-    split-into-requires
+    (λ c κs. search needs)
     add-from
-    sub-left
-    loop-less
+    (λ c. search needs)
+    (λ c. search needs)
     loop-again
-    same-length
+    (λ c. search needs)
     returns)
