@@ -1,11 +1,12 @@
 -- Laws of splitting and joining, over any length.
-use Prim.Native.Nat.{ℕ, _+_, _*_, _/_, _%_, _-_, _≤_}
-use mathlib.Core.List.{List, [], _∷_}
+use Prim.Native.Nat.{ℕ, zero, suc, _+_, _*_, _/_, _%_, _-_, _≤_}
+use mathlib.Core.List.{List, [], _∷_, _++_}
 use mathlib.Core.Bool.{true, _&&_}
 use mathlib.Core.Path.{_≡_, refl, ap, _∙_}
 use native.Mathlib.Omega.{arith}
 use lib.Dec.{leb}
-use lib.ListN.{length}
+use lib.ListN.{length, take, drop}
+use lib.Seq.{take-nil, drop-nil}
 use borrow.Author.Tests.{le-leb, leb-true, eq-eqb}
 use Rattle.ground.specs.Lists.{allAtMost}
 use Rattle.ground.proofs.Tests.{both, by}
@@ -65,6 +66,26 @@ pub length-join : (halves : List ℕ) → length (join halves) ≡ length halves
 length-join [] = refl
 length-join (high ∷ []) = refl
 length-join (high ∷ low ∷ xs) = omega (arith, length-join xs)
+
+-- Of lists one behind the other, and of the first bytes and the rest.
+pub split-append : (xs ys : List ℕ) → split (xs ++ ys) ≡ split xs ++ split ys
+split-append [] ys = refl
+split-append (x ∷ xs) ys = rw (split-append xs ys)
+
+two-more : (k : ℕ) → 2 * suc k ≡ suc (suc (2 * k))
+two-more k = omega arith
+
+pub take-join : (k : ℕ) (halves : List ℕ) → take k (join halves) ≡ join (take (2 * k) halves)
+take-join zero halves = refl
+take-join (suc k) [] = rw (two-more k)
+take-join (suc k) (high ∷ []) = rw (two-more k, take-nil (suc (2 * k)))
+take-join (suc k) (high ∷ low ∷ xs) = rw (two-more k, take-join k xs)
+
+pub drop-join : (k : ℕ) (halves : List ℕ) → drop k (join halves) ≡ join (drop (2 * k) halves)
+drop-join zero halves = refl
+drop-join (suc k) [] = rw (two-more k)
+drop-join (suc k) (high ∷ []) = rw (two-more k, drop-nil (suc (2 * k)))
+drop-join (suc k) (high ∷ low ∷ xs) = rw (two-more k) (drop-join k xs)
 
 -- What a caller may count on: all is moved where the lengths fit, and the half bytes are half bytes.
 split-done : (bytes halves : List ℕ) → length halves ≡ 2 * length bytes → splitInto bytes halves ≡ filled Done (split bytes)

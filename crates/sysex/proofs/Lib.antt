@@ -1,6 +1,7 @@
 pub mod Reading
 pub mod Writing
 pub mod Parts
+pub mod Turns
 pub mod Judged
 pub mod Understands
 pub mod Numbered

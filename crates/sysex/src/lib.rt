@@ -5,6 +5,7 @@ mod bytes;
 mod carrying;
 mod judging;
 mod numbers;
+mod short;
 
 pub use carrying::carry_out;
 pub use judging::judge;
