@@ -67,15 +67,15 @@ static costerbloom_receiver any_receiver(uint64_t *seed)
         below(seed, 3) ? 0 : (uint8_t)below(seed, 256)};
 }
 
-/* Some marks, the same on both sides: as they were left, all set or all clear, one set or clear alone, or any; behind
- * them anything. */
+/* Some marks, the same on both sides: as they were left, all set or all clear, one set or clear alone, often the edit
+ * buffer's, or any; behind them anything. */
 static void mark_both(box *a, box *b, uint64_t *seed)
 {
     uint32_t how = below(seed, 6);
     for (size_t i = 0; how < 5 && i < COSTERBLOOM_MARKS; i++)
         a->marks[i] = how < 4 ? how % 2 : (uint8_t)below(seed, 2);
     if (how == 2 || how == 3)
-        a->marks[below(seed, COSTERBLOOM_MARKS)] ^= 1;
+        a->marks[below(seed, 2) ? below(seed, COSTERBLOOM_MARKS) : COSTERBLOOM_MARKS - 1] ^= 1;
     for (size_t i = COSTERBLOOM_MARKS; i < sizeof a->marks; i++)
         a->marks[i] = (uint8_t)below(seed, 256);
     __builtin_memcpy(b->marks, a->marks, sizeof a->marks);
