@@ -17,14 +17,14 @@ static const struct {
     {COSTERBLOOM_BASS_POD_PROGRAM, COSTERBLOOM_BASS_POD_MEMORY, COSTERBLOOM_BASS_POD_LONGEST},
 };
 
-/* The mark at a place has other bits for the call, so that it is none; by 0 it is what it was. */
+/* The arguments of a call. The mark at a place has other bits for it, which make it none; where they are 0 it stays. */
 typedef struct {
     uint32_t socket, kind;
     uint8_t channel, omni, revision3, other_bits;
     size_t memory, marks, receive, reply, place;
 } given;
 
-/* All in range, with the shortest buffers that the kind allows, or with a few marks too many. */
+/* All in range, with the shortest buffers that the kind allows, but for up to three marks more. */
 static given any_given(uint32_t kind, uint64_t *seed)
 {
     return (given){below(seed, 2), kind, (uint8_t)below(seed, 2), (uint8_t)below(seed, 2), 0x7F, 0, KIND[kind].memory,

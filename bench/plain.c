@@ -45,7 +45,7 @@ static inline int are_valid(uint8_t channel, uint8_t omni, uint8_t revision_bits
     return channel <= 15 && omni <= 1 && revision_bits <= 0x7F;
 }
 
-/* Whether each of the 37 is 0 or 1: eight at a time, the last eight once more than they must. */
+/* Whether each of the 37 is 0 or 1: eight at a time, and the last eight by themselves, since 37 is no multiple. */
 static inline int are_marks(const uint8_t *marks)
 {
     uint64_t bits, eight;
@@ -396,7 +396,7 @@ typedef struct {
     size_t programs;
 } part;
 
-IN_KIND part part_of(const unit *u, uint8_t type, uint8_t program, uint8_t *memory, uint8_t *marks)
+static inline part part_of(const unit *u, uint8_t type, uint8_t program, uint8_t *memory, uint8_t *marks)
 {
     size_t first = type == ONE ? program : type == EDITED ? PROGRAMS : 0;
     return (part){memory + first * u->program, marks + first, type == ALL ? PROGRAMS : 1};

@@ -1,6 +1,6 @@
 /* The box on a bench: two inputs and two outputs (files, pipes or devices) stand for the two MIDI sockets, and a file
- * for what outlives the power. All that is judged, stored and answered is the proved library's work; this
- * loop brings it the bytes and carries its replies away.
+ * for the memory and the marks that outlive the power. All that is judged, stored and answered is the proved library's
+ * work; this loop brings it the bytes and carries its replies away.
  *
  * As on a MIDI wire, one byte goes at a time: a turn takes one byte from each input that is ready, or brings one byte
  * of a reply to an output. Once all is open nothing but poll waits for a byte, so neither socket waits for the other.
@@ -43,8 +43,8 @@ struct socket {
     size_t reply_length, sent; /* sent < reply_length: a reply is on its way */
 };
 
-/* All zero at the start: fresh memory, fresh receivers; as long as either kind needs them. Marks are set before the
- * programs file is read. */
+/* All zero at the start: fresh memory, fresh receivers; as long as either kind needs them. Fresh marks are 1, and are
+ * set in `load`. */
 static uint8_t memory[COSTERBLOOM_MEMORY];
 static uint8_t marks[COSTERBLOOM_MARKS];
 static struct socket sockets[SOCKETS];
@@ -61,7 +61,7 @@ static void ask_to_stop(int number)
     write(stop_pipe[1], "", 1);
 }
 
-/* A signal ends the loop as the end of both inputs does: between two bytes, and all is saved. The C library's signal
+/* A signal ends the loop as the end of both inputs does: between two bytes, and memory is saved. The C library's signal
  * starts an interrupted read or write again, but never poll. */
 static _Bool catch_signals(void)
 {

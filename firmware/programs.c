@@ -29,8 +29,8 @@ static _Bool has_another_length(const char *name, size_t found, size_t length)
     return 0;
 }
 
-/* With another number among the marks the library would refuse every byte: the file is refused before. */
-static _Bool has_marks(const char *name, const uint8_t *marks)
+/* With another number among them the library would refuse every byte: the file is refused before. */
+static _Bool are_marks(const char *name, const uint8_t *marks)
 {
     for (size_t place = 0; place < COSTERBLOOM_MARKS; place++)
         if (marks[place] > 1) {
@@ -59,7 +59,7 @@ static _Bool read_whole(int file, const char *name, uint8_t *memory, size_t leng
     if ((size_t)found != length + COSTERBLOOM_MARKS)
         return has_another_length(name, (size_t)found, length);
     return read_part(file, name, 0, memory, length) && read_part(file, name, length, marks, COSTERBLOOM_MARKS) &&
-           has_marks(name, marks);
+           are_marks(name, marks);
 }
 
 _Bool programs_load(const char *name, uint8_t *memory, size_t length, uint8_t *marks, _Bool *found)

@@ -1,4 +1,4 @@
-/* The box's memory and marks, kept in a file from one run to the next: the bytes of memory that its kind has, so long,
+/* The box's memory and marks, kept in a file from one run to the next: `length` bytes of memory, as its kind has them,
  * then the 37 marks, and nothing else. Each call gives 1, or says what is wrong and gives 0. */
 #ifndef PROGRAMS_H
 #define PROGRAMS_H

@@ -99,8 +99,8 @@ enum { COSTERBLOOM_MOST_MOVES = 256 };
  *
  * 10, 13 and 30 go by the kind's own lengths, and so does 32: a sound receiver has at most 5,192 bytes stored on a POD,
  * 5,768 on a Bass POD. After 2, send the first `reply length` bytes of the reply buffer; after any other number the
- * length is 0. Only 1 changes marks, and only a dump's. From 10 on no byte of memory, no mark and no byte of the reply
- * buffer has changed; from 30 on nothing at all has, the receiver neither. */
+ * length is 0. Only 1 changes marks, and only that of a dump. From 10 on no byte of memory, no mark and no byte of the
+ * reply buffer has changed; from 30 on nothing at all has, the receiver neither. */
 uint64_t costerbloom_take(costerbloom_receiver *receiver, uint32_t socket, uint8_t byte, uint32_t kind,
     uint8_t channel, uint8_t omni, uint8_t revision0, uint8_t revision1, uint8_t revision2, uint8_t revision3,
     uint8_t *memory, size_t memory_length, uint8_t *marks, size_t marks_length,
