@@ -351,20 +351,24 @@ static void expect_apart(void)
     expect(take(&open, 1, bass->number, bass->memory, bass->longest) == TAKEN, "take", "5500 stored on a Bass POD");
 }
 
-/* What a dump and a request begin with: all before the version, or before F7. Gives its length. */
-static size_t head_of(const struct kind *k, const struct named *n, uint8_t opcode, uint8_t *message)
+/* What a dump and a request begin with: all before the version, or before F7. */
+static size_t head_length(const struct named *n)
+{
+    return n->type == 0 ? 8 : 7;
+}
+
+static void make_head(const struct kind *k, const struct named *n, uint8_t opcode, uint8_t *message)
 {
     const uint8_t head[] = {0xF0, 0, 1, 0x0C, k->device, opcode, n->type, n->program};
-    size_t length = sizeof head - (n->type != 0);
-    for (size_t place = 0; place < length; place++)
+    for (size_t place = 0; place < head_length(n); place++)
         message[place] = head[place];
-    return length;
 }
 
 /* Makes the dump, with so many bytes of each program, and gives its length. */
 static size_t make_dump(const struct kind *k, const struct named *n, size_t sent)
 {
-    size_t length = head_of(k, n, 1, dump), end = length + 1 + 2 * sent * n->programs;
+    size_t length = head_length(n), end = length + 1 + 2 * sent * n->programs;
+    make_head(k, n, 1, dump);
     dump[length++] = 0;
     for (; length < end; length++)
         dump[length] = (uint8_t)((7 * length + length / 16) % 16);
@@ -372,15 +376,15 @@ static size_t make_dump(const struct kind *k, const struct named *n, size_t sent
     return length;
 }
 
-/* The dump goes to a box byte by byte, or whole. */
-static uint64_t send(const struct kind *k, size_t length, _Bool by_bytes)
+/* A message goes to a box byte by byte, or whole. */
+static uint64_t send(const struct kind *k, const uint8_t *message, size_t length, _Bool by_bytes)
 {
     costerbloom_receiver receiver = {0};
     uint64_t answer = TAKEN;
     if (!by_bytes)
-        return whole(dump, length, k->number, k->memory, k->longest);
+        return whole(message, length, k->number, k->memory, k->longest);
     for (size_t place = 0; place < length; place++)
-        answer = take(&receiver, dump[place], k->number, k->memory, k->longest);
+        answer = take(&receiver, message[place], k->number, k->memory, k->longest);
     return answer;
 }
 
@@ -398,7 +402,7 @@ static uint8_t stored_at(const struct kind *k, const struct named *n, size_t sen
         return FILLED;
     if (byte >= sent)
         return 0;
-    const uint8_t *halves = dump + (n->type == 0 ? 9 : 8) + 2 * ((program - n->first) * sent + byte);
+    const uint8_t *halves = dump + head_length(n) + 1 + 2 * ((program - n->first) * sent + byte);
     return (uint8_t)(halves[0] << 4 | halves[1]);
 }
 
@@ -407,7 +411,8 @@ static void expect_stored(const struct kind *k, const struct named *n, size_t se
 {
     fill(memory, sizeof memory, FILLED);
     fill(marks, sizeof marks, before);
-    expect(send(k, make_dump(k, n, sent), by_bytes) == STORED, by_bytes ? "take" : "whole", "a dump");
+    size_t length = make_dump(k, n, sent);
+    expect(send(k, dump, length, by_bytes) == STORED, by_bytes ? "take" : "whole", "a dump");
     for (size_t place = 0; place < sizeof memory; place++)
         expect(memory[place] == stored_at(k, n, sent, place), "a dump", "what is stored");
     for (size_t place = 0; place < sizeof marks; place++)
@@ -415,13 +420,15 @@ static void expect_stored(const struct kind *k, const struct named *n, size_t se
 }
 
 /* A request that is answered with so many bytes of each program, which are memory's. */
-static void expect_reply(const struct kind *k, const struct named *n, size_t sent)
+static void expect_reply(const struct kind *k, const struct named *n, size_t sent, _Bool by_bytes)
 {
     uint8_t ask[9];
-    size_t head = head_of(k, n, 0, ask), end = head + 1 + 2 * sent * n->programs;
+    size_t head = head_length(n), end = head + 1 + 2 * sent * n->programs;
+    make_head(k, n, 0, ask);
     ask[head] = 0xF7;
     fill(reply, sizeof reply, FILLED);
-    expect(whole(ask, head + 1, k->number, k->memory, k->longest) == REPLIED + ((end + 1) << 8), "whole", "a request");
+    uint64_t answer = send(k, ask, head + 1, by_bytes);
+    expect(answer == REPLIED + ((end + 1) << 8), by_bytes ? "take" : "whole", "a request");
     for (size_t place = 0; place < head; place++)
         expect(reply[place] == (place == 5 ? 1 : ask[place]), "a reply", "how it begins");
     expect(reply[head] == 0 && reply[end] == 0xF7, "a reply", "version and F7");
@@ -440,7 +447,7 @@ static void expect_refused(const struct kind *k, size_t length, uint64_t number)
         _Bool by_bytes = turn / 2;
         fill(memory, sizeof memory, FILLED);
         fill(marks, sizeof marks, turn % 2);
-        expect(send(k, length, by_bytes) == number, by_bytes ? "take" : "whole", "a dump that is wrong");
+        expect(send(k, dump, length, by_bytes) == number, by_bytes ? "take" : "whole", "a dump that is wrong");
         expect(is_full_of(memory, sizeof memory, FILLED), "a refused dump", "memory changes");
         expect(is_full_of(marks, sizeof marks, turn % 2), "a refused dump", "a mark changes");
     }
@@ -449,7 +456,7 @@ static void expect_refused(const struct kind *k, size_t length, uint64_t number)
 /* A dump of a length that is taken, with a version, a data byte, a program or, at last, another length that is not. */
 static void expect_spoiled(const struct kind *k, const struct named *n, size_t sent)
 {
-    size_t length = make_dump(k, n, sent), version = n->type == 0 ? 8 : 7;
+    size_t length = make_dump(k, n, sent), version = head_length(n);
     dump[version] = 1;
     expect_refused(k, length, WRONG_VERSION);
     dump[version] = 0;
@@ -477,8 +484,8 @@ static void expect_uneven(void)
     expect_refused(pod, longer - 2, WRONG_LENGTH);
 }
 
-/* Dumps of every type and length, in and out. With a byte less of each program the length is wrong, on a Bass POD too.
- */
+/* Dumps of every type, in and out, with the bytes that a unit of this kind may send of a program; with one less the
+ * length is wrong. */
 static void expect_dumps(const struct kind *k)
 {
     for (const struct named *n = names; n < names_end; n++) {
@@ -486,7 +493,7 @@ static void expect_dumps(const struct kind *k)
         for (uint8_t turn = 0; turn < 8; turn++) {
             size_t sent = turn < 4 ? k->program : shorter;
             expect_stored(k, n, sent, turn % 2, turn / 2 % 2);
-            expect_reply(k, n, sent);
+            expect_reply(k, n, sent, turn / 2 % 2);
         }
         expect_spoiled(k, n, k->program);
         expect_spoiled(k, n, shorter);
@@ -494,24 +501,32 @@ static void expect_dumps(const struct kind *k)
     }
 }
 
+/* Never 0. */
+static uint8_t held_at(size_t place)
+{
+    return (uint8_t)((5 * place + place / 256) | 1);
+}
+
 /* One mark against all others, set or clear: a POD's reply is long where all marks are set of what is asked for. No
  * byte of memory is 0, and none changes, a spare one neither. */
 static void expect_replies(const struct kind *k)
 {
     for (size_t place = 0; place < sizeof memory; place++)
-        memory[place] = (uint8_t)((5 * place + place / 256) | 1);
+        memory[place] = held_at(place);
     for (size_t turn = 0; turn < 2 * COSTERBLOOM_MARKS; turn++) {
         uint8_t others = turn % 2, *mark = &marks[turn / 2];
         fill(marks, sizeof marks, others);
         *mark = !others;
-        for (const struct named *n = names; n < names_end; n++)
-            expect_reply(k, n, k->program - (k == pod && !is_full_of(marks + n->first, n->programs, 1)));
+        for (const struct named *n = names; n < names_end; n++) {
+            _Bool is_short = k == pod && !is_full_of(marks + n->first, n->programs, 1);
+            expect_reply(k, n, k->program - is_short, turn / 2 % 2);
+        }
         expect(*mark == !others, "a request", "that mark changes");
         *mark = others;
         expect(is_full_of(marks, sizeof marks, others), "a request", "another mark changes");
     }
     for (size_t place = 0; place < sizeof memory; place++)
-        expect(memory[place] == (uint8_t)((5 * place + place / 256) | 1), "a request", "memory changes");
+        expect(memory[place] == held_at(place), "a request", "memory changes");
 }
 
 /* A controller, program changes, an identity request, and a dump that is cut: none moves a mark, whether the edit
@@ -535,7 +550,7 @@ static void expect_dump(const struct kind *k, const struct kind *other)
 {
     size_t length = make_dump(k, last_program, k->program);
     expect(whole(dump, length, other->number, sizeof memory, sizeof reply) == NOT_OURS, "whole", "the other's dump");
-    expect(send(k, length, 1) == STORED, "take", "a dump");
+    expect(send(k, dump, length, 1) == STORED, "take", "a dump");
 }
 
 /* Every program change: 1 to 36 brings program 0 to 35 into a Bass POD's edit buffer, no other does anything. */
@@ -563,7 +578,7 @@ static void expect_programs(const struct kind *k)
     fill(marks, sizeof marks, 1);
     expect_dump(k, k == pod ? bass : pod);
     expect_changes(k);
-    expect_reply(k, edit_buffer, k->program);
+    expect_reply(k, edit_buffer, k->program, 0);
 }
 
 /* Bench cases of document 01, the least number of Req 01, and numbers that must not be cut to a byte. */
