@@ -289,7 +289,7 @@ def check_kept(bench):
 
 
 def check_without_marks(bench):
-    """A programs file of an earlier version is read as one all set."""
+    """A programs file of an earlier version is read as all marks set."""
     kind, memory = bench.kind, bench.some[:bench.kind.memory]
     programs, edit = memory[:-kind.size], memory[-kind.size:]
     bench.programs.write_bytes(memory)
