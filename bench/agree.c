@@ -17,24 +17,26 @@ static const struct {
     {COSTERBLOOM_BASS_POD_PROGRAM, COSTERBLOOM_BASS_POD_MEMORY, COSTERBLOOM_BASS_POD_LONGEST},
 };
 
+/* The arguments of a call. The mark at a place has other bits for it, which make it none; where they are 0 it stays. */
 typedef struct {
     uint32_t socket, kind;
-    uint8_t channel, omni, revision3;
-    size_t memory, receive, reply;
+    uint8_t channel, omni, revision3, other_bits;
+    size_t memory, marks, receive, reply, place;
 } given;
 
-/* All in range, with the shortest buffers that the kind allows. */
+/* All in range, with the shortest buffers that the kind allows, but for up to three marks more. */
 static given any_given(uint32_t kind, uint64_t *seed)
 {
-    return (given){below(seed, 2), kind, (uint8_t)below(seed, 2), (uint8_t)below(seed, 2), 0x7F, KIND[kind].memory,
-        KIND[kind].longest, KIND[kind].longest};
+    return (given){below(seed, 2), kind, (uint8_t)below(seed, 2), (uint8_t)below(seed, 2), 0x7F, 0, KIND[kind].memory,
+        COSTERBLOOM_MARKS + below(seed, 4), KIND[kind].longest, KIND[kind].longest, 0};
 }
 
 /* One thing just outside its range, or a kind that is none, whatever the buffers. */
 static given any_amiss(uint32_t kind, uint64_t *seed)
 {
+    static const uint8_t OTHER_BITS[] = {2, 0x80, 0xFE};
     given g = any_given(kind, seed);
-    switch (below(seed, 9)) {
+    switch (below(seed, 11)) {
         case 0: g.socket = 2; break;
         case 1: g.channel = 16; break;
         case 2: g.omni = 2; break;
@@ -42,10 +44,15 @@ static given any_amiss(uint32_t kind, uint64_t *seed)
         case 4: g.memory--; break;
         case 5: g.receive--; break;
         case 6: g.reply--; break;
-        case 7: g.kind = NO_KIND[below(seed, NO_KINDS)]; break;
+        case 7: g.marks = COSTERBLOOM_MARKS - 1; break;
+        case 8:
+            g.place = below(seed, COSTERBLOOM_MARKS);
+            g.other_bits = OTHER_BITS[below(seed, sizeof OTHER_BITS)];
+            break;
+        case 9: g.kind = NO_KIND[below(seed, NO_KINDS)]; break;
         default:
             g.kind = NO_KIND[below(seed, NO_KINDS)];
-            g.memory = g.receive = g.reply = 0;
+            g.memory = g.marks = g.receive = g.reply = 0;
     }
     return g;
 }
@@ -60,20 +67,47 @@ static costerbloom_receiver any_receiver(uint64_t *seed)
         below(seed, 3) ? 0 : (uint8_t)below(seed, 256)};
 }
 
+/* Some marks, the same on both sides: as they were left, all set or all clear, one set or clear alone, often the edit
+ * buffer's, or any; behind them anything. */
+static void mark_both(box *a, box *b, uint64_t *seed)
+{
+    uint32_t how = below(seed, 6);
+    for (size_t i = 0; how < 5 && i < COSTERBLOOM_MARKS; i++)
+        a->marks[i] = how < 4 ? how % 2 : (uint8_t)below(seed, 2);
+    if (how == 2 || how == 3)
+        a->marks[below(seed, 2) ? below(seed, COSTERBLOOM_MARKS) : COSTERBLOOM_MARKS - 1] ^= 1;
+    for (size_t i = COSTERBLOOM_MARKS; i < sizeof a->marks; i++)
+        a->marks[i] = (uint8_t)below(seed, 256);
+    __builtin_memcpy(b->marks, a->marks, sizeof a->marks);
+}
+
+/* Before a call, and once more behind it: the mark is then what it was. */
+static void change_mark(box *a, box *b, const given *g)
+{
+    a->marks[g->place] ^= g->other_bits;
+    b->marks[g->place] ^= g->other_bits;
+}
+
 static int take_same(box *a, box *b, uint8_t byte, const given *g)
 {
+    change_mark(a, b, g);
     uint64_t x = costerbloom_take(&a->receiver, g->socket, byte, g->kind, g->channel, g->omni, 1, 2, 3, g->revision3,
-        a->memory, g->memory, a->receive, g->receive, a->reply, g->reply);
+        a->memory, g->memory, a->marks, g->marks, a->receive, g->receive, a->reply, g->reply);
     uint64_t y = plain_take(&b->receiver, g->socket, byte, g->kind, g->channel, g->omni, 1, 2, 3, g->revision3,
-        b->memory, g->memory, b->receive, g->receive, b->reply, g->reply);
-    return x == y && same_receiver(&a->receiver, &b->receiver);
+        b->memory, g->memory, b->marks, g->marks, b->receive, g->receive, b->reply, g->reply);
+    change_mark(a, b, g);
+    return x == y && same_receiver(&a->receiver, &b->receiver) && same(a->marks, b->marks, sizeof a->marks);
 }
 
 static int whole_same(box *a, box *b, const uint8_t *message, size_t length, const given *g)
 {
-    return costerbloom_whole(message, length, g->kind, g->channel, g->omni, 1, 2, 3, g->revision3, a->memory,
-               g->memory, a->reply, g->reply) == plain_whole(message, length, g->kind, g->channel, g->omni, 1, 2, 3,
-                                                     g->revision3, b->memory, g->memory, b->reply, g->reply);
+    change_mark(a, b, g);
+    uint64_t x = costerbloom_whole(message, length, g->kind, g->channel, g->omni, 1, 2, 3, g->revision3, a->memory,
+        g->memory, a->marks, g->marks, a->reply, g->reply);
+    uint64_t y = plain_whole(message, length, g->kind, g->channel, g->omni, 1, 2, 3, g->revision3, b->memory, g->memory,
+        b->marks, g->marks, b->reply, g->reply);
+    change_mark(a, b, g);
+    return x == y && same(a->marks, b->marks, sizeof a->marks);
 }
 
 /* The numbers go to the reply buffer, of which so much is lent. */
@@ -157,7 +191,8 @@ static size_t put(uint8_t *message, const uint8_t *bytes, size_t count)
     return count;
 }
 
-/* A request or a dump of any form, often with one thing wrong. */
+/* A request or a dump of any form, often with one thing wrong. Every second dump has a byte less of each program: on a
+ * POD it is a short one. */
 static size_t any_sysex(uint8_t *message, uint32_t kind, uint64_t *seed)
 {
     const uint8_t header[] = {0xF0, 0x00, 0x01, 0x0C, (uint8_t)(1 + kind)};
@@ -169,7 +204,8 @@ static size_t any_sysex(uint8_t *message, uint32_t kind, uint64_t *seed)
         message[length++] = (uint8_t)below(seed, 38);
     if (opcode == 1) {
         message[length++] = wrong == 0;
-        size_t end = length + 2 * KIND[kind].program * (type == 2 ? 36 : 1) - (wrong == 1) + (wrong == 4);
+        size_t program = KIND[kind].program - below(seed, 2), amiss = 1 + below(seed, 2);
+        size_t end = length + 2 * program * (type == 2 ? 36 : 1) - (wrong == 1) * amiss + (wrong == 4) * amiss;
         while (length < end)
             message[length++] = (uint8_t)below(seed, 16);
     }
@@ -288,6 +324,7 @@ uint32_t agree(box *library, box *plain, uint32_t calls)
         uint32_t kind = below(&seed, KINDS);
         size_t length = any_message(message, kind, &seed);
         _Bool wild = below(&seed, 8) == 0;
+        mark_both(library, plain, &seed);
         if (wild)
             library->receiver = plain->receiver = any_receiver(&seed);
         if (!once_same(library, plain, message, length, kind, &seed))

@@ -16,7 +16,8 @@ typedef struct {
 } work;
 
 static _Alignas(4096) box boxes[2];
-static uint8_t dump[COSTERBLOOM_POD_LONGEST], bass_dump[COSTERBLOOM_BASS_POD_LONGEST];
+static uint8_t dump[COSTERBLOOM_POD_LONGEST], short_dump[COSTERBLOOM_LONGEST_OF(COSTERBLOOM_POD_PROGRAM - 1)],
+    bass_dump[COSTERBLOOM_BASS_POD_LONGEST];
 static uint8_t moves[1 + 2 * MOVES], turns[1 + 2 * MOVES];
 static costerbloom_move listed[LISTS * COSTERBLOOM_MOST_MOVES];
 static const uint8_t REQUEST[] = {0xF0, 0, 1, 0x0C, 1, 0, 2, 0xF7}, BASS_REQUEST[] = {0xF0, 0, 1, 0x0C, 2, 0, 2, 0xF7};
@@ -28,8 +29,8 @@ static const uint8_t REQUEST[] = {0xF0, 0, 1, 0x0C, 1, 0, 2, 0xF7}, BASS_REQUEST
 /* The largest buffers are lent, as a box does that may be set as either kind. */
 ONCE taken(take_call *take, uint32_t kind, box *b, uint8_t byte)
 {
-    return take(&b->receiver, 0, byte, kind, 0, 0, 0x30, 0x31, 0x30, 0x30, b->memory, sizeof b->memory, b->receive,
-        sizeof b->receive, b->reply, sizeof b->reply);
+    return take(&b->receiver, 0, byte, kind, 0, 0, 0x30, 0x31, 0x30, 0x30, b->memory, sizeof b->memory, b->marks,
+        sizeof b->marks, b->receive, sizeof b->receive, b->reply, sizeof b->reply);
 }
 
 /* The answers are kept, so that no call can be left out, and compared. */
@@ -44,6 +45,11 @@ ONCE fed(take_call *take, uint32_t kind, box *b, const uint8_t *bytes, size_t co
 ONCE dump_in(take_call *take, box *b)
 {
     return fed(take, COSTERBLOOM_POD, b, dump, sizeof dump);
+}
+
+ONCE short_dump_in(take_call *take, box *b)
+{
+    return fed(take, COSTERBLOOM_POD, b, short_dump, sizeof short_dump);
 }
 
 ONCE bass_dump_in(take_call *take, box *b)
@@ -120,7 +126,7 @@ ONCE from_panel(whole_call *whole, box *b)
     uint64_t answers = 0;
     for (int i = 0; i < CALLS; i++)
         answers = 3 * answers + whole(dump, sizeof dump, COSTERBLOOM_POD, 0, 0, 0x30, 0x31, 0x30, 0x30, b->memory,
-                                    sizeof b->memory, b->reply, sizeof b->reply);
+                                    sizeof b->memory, b->marks, sizeof b->marks, b->reply, sizeof b->reply);
     return answers;
 }
 
@@ -153,6 +159,7 @@ ONCE shown_of_sheet(back_call *back, box *b)
     }
 
 SIDES(dump_in, take)
+SIDES(short_dump_in, take)
 SIDES(reply_out, take)
 SIDES(mixed_moves, take)
 SIDES(one_knob, take)
@@ -167,7 +174,7 @@ SIDES(bass_reply_out, take)
 
 /* ---- what is fed */
 
-/* The dump that answers a request for all programs. */
+/* The dump that answers a request for all programs, so long. */
 static void make_dump(uint8_t *message, size_t length, const uint8_t *request)
 {
     uint64_t seed = 36;
@@ -206,6 +213,7 @@ static void fresh(box *b)
     *b = (box){.receiver = {.stored = 0}};
     for (size_t i = 0; i < sizeof b->memory; i++)
         b->memory[i] = (uint8_t)below(&seed, 256);
+    __builtin_memset(b->marks, 1, sizeof b->marks);
 }
 
 static void with_dump(box *b)
@@ -230,6 +238,7 @@ static void inside(box *b)
 
 static const work WORKS[] = {
     {"a long dump in, byte by byte", "byte", sizeof dump, fresh, dump_in_library, dump_in_plain},
+    {"a short long dump in", "byte", sizeof short_dump, fresh, short_dump_in_library, short_dump_in_plain},
     {"a long reply out, its request", "request", REQUESTS, fresh, reply_out_library, reply_out_plain},
     {"controllers, all kinds mixed", "byte", sizeof moves, fresh, mixed_moves_library, mixed_moves_plain},
     {"controllers, one knob turned", "byte", sizeof turns, fresh, one_knob_library, one_knob_plain},
@@ -315,6 +324,7 @@ int main(int words, char **unused)
 {
     (void)unused;
     make_dump(dump, sizeof dump, REQUEST);
+    make_dump(short_dump, sizeof short_dump, REQUEST);
     make_dump(bass_dump, sizeof bass_dump, BASS_REQUEST);
     make_moves();
     if (!panel_agrees()) {

@@ -45,6 +45,18 @@ static inline int are_valid(uint8_t channel, uint8_t omni, uint8_t revision_bits
     return channel <= 15 && omni <= 1 && revision_bits <= 0x7F;
 }
 
+/* Whether each of the 37 is 0 or 1: eight at a time, and the last eight by themselves, since 37 is no multiple. */
+static inline int are_marks(const uint8_t *marks)
+{
+    uint64_t bits, eight;
+    __builtin_memcpy(&bits, marks + COSTERBLOOM_MARKS - 8, 8);
+    for (size_t i = 0; i + 8 <= COSTERBLOOM_MARKS; i += 8) {
+        __builtin_memcpy(&eight, marks + i, 8);
+        bits |= eight;
+    }
+    return (bits & 0xFEFEFEFEFEFEFEFE) == 0;
+}
+
 /* ---- half bytes */
 
 /* All bits that any of the bytes has: one pass without a way out, which the compiler can do 16 bytes at a time. */
@@ -171,7 +183,7 @@ static const row BASS_POD_ROWS[128] = {
 /* All that hangs on a kind. A function over a unit is inlined (IN_KIND) where the unit is known, but for what is done
  * with a finished SysEx, which is long beside the reading of a unit. */
 typedef struct {
-    size_t program; /* bytes of one */
+    size_t program, spare; /* bytes of one, and how many of them a short dump lacks */
     uint8_t header[5], identity[4];
     const row *rows;
     int changes; /* whether a program change is taken */
@@ -179,9 +191,9 @@ typedef struct {
 
 #define IN_KIND static inline __attribute__((always_inline))
 
-static const unit POD = {COSTERBLOOM_POD_PROGRAM, {0xF0, 0x00, 0x01, 0x0C, 0x01}, {0, 0, 0, 1}, POD_ROWS, 0};
+static const unit POD = {COSTERBLOOM_POD_PROGRAM, 1, {0xF0, 0x00, 0x01, 0x0C, 0x01}, {0, 0, 0, 1}, POD_ROWS, 0};
 static const unit BASS_POD = {
-    COSTERBLOOM_BASS_POD_PROGRAM, {0xF0, 0x00, 0x01, 0x0C, 0x02}, {2, 0, 0, 0}, BASS_POD_ROWS, 1};
+    COSTERBLOOM_BASS_POD_PROGRAM, 0, {0xF0, 0x00, 0x01, 0x0C, 0x02}, {2, 0, 0, 0}, BASS_POD_ROWS, 1};
 
 IN_KIND size_t edit_of(const unit *u)
 {
@@ -193,10 +205,11 @@ IN_KIND size_t limit_of(const unit *u)
     return COSTERBLOOM_LONGEST_OF(u->program) - 1;
 }
 
-IN_KIND int is_short(const unit *u, size_t memory_length, size_t receive_length, size_t reply_length)
+IN_KIND int is_short(
+    const unit *u, size_t memory_length, size_t marks_length, size_t receive_length, size_t reply_length)
 {
-    return memory_length < COSTERBLOOM_MEMORY_OF(u->program) || receive_length < COSTERBLOOM_LONGEST_OF(u->program) ||
-           reply_length < COSTERBLOOM_LONGEST_OF(u->program);
+    return memory_length < COSTERBLOOM_MEMORY_OF(u->program) || marks_length < COSTERBLOOM_MARKS ||
+           receive_length < COSTERBLOOM_LONGEST_OF(u->program) || reply_length < COSTERBLOOM_LONGEST_OF(u->program);
 }
 
 /* What each value of byte 46 selects. */
@@ -377,28 +390,62 @@ static uint64_t identify(const unit *u, const settings *s, uint8_t cc, uint8_t *
     return replied(sizeof IDENTITY);
 }
 
+/* What a message names: a program, the edit buffer or all programs, and their marks. */
+typedef struct {
+    uint8_t *bytes, *marks;
+    size_t programs;
+} part;
+
+static inline part part_of(const unit *u, uint8_t type, uint8_t program, uint8_t *memory, uint8_t *marks)
+{
+    size_t first = type == ONE ? program : type == EDITED ? PROGRAMS : 0;
+    return (part){memory + first * u->program, marks + first, type == ALL ? PROGRAMS : 1};
+}
+
+/* How many bytes of a program a dump of this part has: the spare one only where all its marks are set. */
+static inline size_t sent_of(const unit *u, const part *p)
+{
+    uint8_t all = 1;
+    for (size_t i = 0; i < p->programs; i++)
+        all &= p->marks[i];
+    return all ? u->program : u->program - u->spare;
+}
+
 /* The dump begins as its request does, but for the opcode: of the eight bytes that every request has, the last is the
  * program, or is written over. */
-static uint64_t answer(
-    const uint8_t *request, size_t head, const uint8_t *restrict part, size_t count, uint8_t *restrict reply)
+static uint64_t answer(const unit *u, const uint8_t *request, size_t head, const part *p, uint8_t *restrict reply)
 {
-    size_t at = head;
+    size_t at = head, sent = sent_of(u, p);
     __builtin_memcpy(reply, request, 8);
     reply[5] = DUMP;
     reply[at++] = 0;
-    split(reply + at, part, count);
-    at += 2 * count;
+    if (sent == u->program)
+        split(reply + at, p->bytes, p->programs * sent);
+    else
+        for (size_t i = 0; i < p->programs; i++)
+            split(reply + at + 2 * i * sent, p->bytes + i * u->program, sent);
+    at += 2 * p->programs * sent;
     reply[at++] = 0xF7;
     return replied(at);
 }
 
-static uint64_t store(const uint8_t *restrict fields, uint8_t *restrict part, size_t count)
+/* Of each program so many bytes have come: all, or all but the spare one. */
+static uint64_t store(const unit *u, const uint8_t *restrict fields, size_t sent, const part *p)
 {
+    const uint8_t *halves = fields + 1;
     if (fields[0] != 0)
         return WRONG_VERSION;
-    if (bits_of(fields + 1, 2 * count) > 0x0F)
+    if (bits_of(halves, 2 * p->programs * sent) > 0x0F)
         return ABOVE_0F;
-    join(part, fields + 1, count);
+    if (sent == u->program)
+        join(p->bytes, halves, p->programs * sent);
+    else
+        for (size_t i = 0; i < p->programs; i++) {
+            join(p->bytes + i * u->program, halves + 2 * i * sent, sent);
+            p->bytes[i * u->program + sent] = 0;
+        }
+    if (u->spare)
+        __builtin_memset(p->marks, sent == u->program, p->programs);
     return STORED;
 }
 
@@ -408,8 +455,8 @@ static inline int is_identity(const uint8_t *body, size_t length)
 }
 
 /* A body: F0 and the bytes after it, without F7. Nothing is assumed of its bytes. */
-static uint64_t sysex(
-    const unit *u, const settings *s, const uint8_t *body, size_t length, uint8_t *memory, uint8_t *reply)
+static uint64_t sysex(const unit *u, const settings *s, const uint8_t *body, size_t length, uint8_t *memory,
+    uint8_t *marks, uint8_t *reply)
 {
     if (is_identity(body, length))
         return identify(u, s, body[2], reply);
@@ -418,22 +465,23 @@ static uint64_t sysex(
     if (length < 7 || body[5] > DUMP || body[6] > ALL)
         return UNKNOWN;
     uint8_t opcode = body[5], type = body[6];
-    size_t head = type == ONE ? 8 : 7, count = type == ALL ? edit_of(u) : u->program;
-    if (length != (opcode == REQUEST ? head : head + 1 + 2 * count))
+    size_t head = type == ONE ? 8 : 7, programs = type == ALL ? PROGRAMS : 1;
+    size_t longer = head + 1 + 2 * programs * u->program, shorter = longer - 2 * programs * u->spare;
+    if (opcode == REQUEST ? length != head : length != longer && length != shorter)
         return WRONG_LENGTH;
     if (type == ONE && body[7] >= PROGRAMS)
         return NO_PROGRAM;
-    uint8_t *part = memory + (type == ONE ? body[7] * u->program : type == EDITED ? edit_of(u) : 0);
+    const part p = part_of(u, type, body[7], memory, marks);
     if (opcode == REQUEST)
-        return answer(body, head, part, count, reply);
-    return store(body + head, part, count);
+        return answer(u, body, head, &p, reply);
+    return store(u, body + head, length == longer ? u->program : u->program - u->spare, &p);
 }
 
 /* The arguments of a byte call, kept apart: they are put together as settings for a finished SysEx alone. */
 typedef struct {
     uint8_t byte, channel, omni, revision0, revision1, revision2, revision3;
-    uint8_t *memory, *receive, *reply;
-    size_t memory_length, receive_length, reply_length;
+    uint8_t *memory, *marks, *receive, *reply;
+    size_t memory_length, marks_length, receive_length, reply_length;
 } call;
 
 /* Programs are counted from 1 here: 0 is manual, 37 the tuner. */
@@ -514,7 +562,7 @@ IN_KIND uint64_t take_inside(const unit *u, costerbloom_receiver *r, const call 
     if (over)
         return TOO_LONG;
     const settings s = {c->channel, c->omni, {c->revision0, c->revision1, c->revision2, c->revision3}};
-    return sysex(u, &s, c->receive, length, c->memory, c->reply);
+    return sysex(u, &s, c->receive, length, c->memory, c->marks, c->reply);
 }
 
 IN_KIND uint64_t take_outside(const unit *u, costerbloom_receiver *r, const call *c)
@@ -542,11 +590,12 @@ IN_KIND uint64_t take_outside(const unit *u, costerbloom_receiver *r, const call
 
 IN_KIND uint64_t take(const unit *u, costerbloom_receiver *r, uint32_t socket, const call *c)
 {
-    if (is_short(u, c->memory_length, c->receive_length, c->reply_length))
+    if (is_short(u, c->memory_length, c->marks_length, c->receive_length, c->reply_length))
         return TOO_SHORT;
     if (socket > 1)
         return NO_SOCKET;
-    if (!are_valid(c->channel, c->omni, c->revision0 | c->revision1 | c->revision2 | c->revision3))
+    if (!are_valid(c->channel, c->omni, c->revision0 | c->revision1 | c->revision2 | c->revision3) ||
+        !are_marks(c->marks))
         return NOT_SOUND;
     if (r->inside)
         return is_sound_inside(u, r) ? take_inside(u, r, c) : NOT_SOUND;
@@ -555,10 +604,11 @@ IN_KIND uint64_t take(const unit *u, costerbloom_receiver *r, uint32_t socket, c
 
 uint64_t plain_take(costerbloom_receiver *receiver, uint32_t socket, uint8_t byte, uint32_t kind, uint8_t channel,
     uint8_t omni, uint8_t revision0, uint8_t revision1, uint8_t revision2, uint8_t revision3, uint8_t *memory,
-    size_t memory_length, uint8_t *receive, size_t receive_length, uint8_t *reply, size_t reply_length)
+    size_t memory_length, uint8_t *marks, size_t marks_length, uint8_t *receive, size_t receive_length, uint8_t *reply,
+    size_t reply_length)
 {
-    const call c = {byte, channel, omni, revision0, revision1, revision2, revision3, memory, receive, reply,
-        memory_length, receive_length, reply_length};
+    const call c = {byte, channel, omni, revision0, revision1, revision2, revision3, memory, marks, receive, reply,
+        memory_length, marks_length, receive_length, reply_length};
     switch (kind) {
         case COSTERBLOOM_POD: return take(&POD, receiver, socket, &c);
         case COSTERBLOOM_BASS_POD: return take(&BASS_POD, receiver, socket, &c);
@@ -573,19 +623,19 @@ static inline int is_framed(const uint8_t *message, size_t length)
 
 uint64_t plain_whole(const uint8_t *message, size_t message_length, uint32_t kind, uint8_t channel, uint8_t omni,
     uint8_t revision0, uint8_t revision1, uint8_t revision2, uint8_t revision3, uint8_t *memory, size_t memory_length,
-    uint8_t *reply, size_t reply_length)
+    uint8_t *marks, size_t marks_length, uint8_t *reply, size_t reply_length)
 {
     const settings s = {channel, omni, {revision0, revision1, revision2, revision3}};
     if (kind > COSTERBLOOM_BASS_POD)
         return NOT_SOUND;
     const unit *u = kind == COSTERBLOOM_POD ? &POD : &BASS_POD;
-    if (is_short(u, memory_length, reply_length, reply_length))
+    if (is_short(u, memory_length, marks_length, reply_length, reply_length))
         return TOO_SHORT;
-    if (!are_valid(channel, omni, revision0 | revision1 | revision2 | revision3))
+    if (!are_valid(channel, omni, revision0 | revision1 | revision2 | revision3) || !are_marks(marks))
         return NOT_SOUND;
     if (message_length > COSTERBLOOM_LONGEST_OF(u->program))
         return TOO_LONG;
     if (!is_framed(message, message_length))
         return NOT_OURS;
-    return sysex(u, &s, message, message_length - 1, memory, reply);
+    return sysex(u, &s, message, message_length - 1, memory, marks, reply);
 }

@@ -1,4 +1,4 @@
-/* The box of document 01 with Reqs 01, 04 and 05 in plain C, written for speed: the rival that bench/ measures the
+/* The box of document 01 with Reqs 01 and 04 to 06 in plain C, written for speed: the rival that bench/ measures the
  * library against. The same five functions, the same promise, as include/costerbloom.h says it. */
 #ifndef PLAIN_H
 #define PLAIN_H
@@ -7,11 +7,12 @@
 
 uint64_t plain_take(costerbloom_receiver *receiver, uint32_t socket, uint8_t byte, uint32_t kind, uint8_t channel,
     uint8_t omni, uint8_t revision0, uint8_t revision1, uint8_t revision2, uint8_t revision3, uint8_t *memory,
-    size_t memory_length, uint8_t *receive, size_t receive_length, uint8_t *reply, size_t reply_length);
+    size_t memory_length, uint8_t *marks, size_t marks_length, uint8_t *receive, size_t receive_length, uint8_t *reply,
+    size_t reply_length);
 
 uint64_t plain_whole(const uint8_t *message, size_t message_length, uint32_t kind, uint8_t channel, uint8_t omni,
     uint8_t revision0, uint8_t revision1, uint8_t revision2, uint8_t revision3, uint8_t *memory, size_t memory_length,
-    uint8_t *reply, size_t reply_length);
+    uint8_t *marks, size_t marks_length, uint8_t *reply, size_t reply_length);
 
 uint64_t plain_moves(const costerbloom_move *moves, size_t count, uint32_t kind, uint8_t channel, uint8_t omni,
     uint8_t revision0, uint8_t revision1, uint8_t revision2, uint8_t revision3, uint8_t *memory, size_t memory_length,

@@ -5,17 +5,19 @@
 #include "plain.h"
 
 typedef uint64_t take_call(costerbloom_receiver *, uint32_t, uint8_t, uint32_t, uint8_t, uint8_t, uint8_t, uint8_t,
-    uint8_t, uint8_t, uint8_t *, size_t, uint8_t *, size_t, uint8_t *, size_t);
+    uint8_t, uint8_t, uint8_t *, size_t, uint8_t *, size_t, uint8_t *, size_t, uint8_t *, size_t);
 typedef uint64_t whole_call(const uint8_t *, size_t, uint32_t, uint8_t, uint8_t, uint8_t, uint8_t, uint8_t, uint8_t,
-    uint8_t *, size_t, uint8_t *, size_t);
+    uint8_t *, size_t, uint8_t *, size_t, uint8_t *, size_t);
 typedef uint64_t moves_call(const costerbloom_move *, size_t, uint32_t, uint8_t, uint8_t, uint8_t, uint8_t, uint8_t,
     uint8_t, uint8_t *, size_t, uint8_t *, size_t);
 typedef uint32_t back_call(uint32_t, uint32_t, const uint8_t *, size_t);
 
-/* Of either kind. Each buffer begins on a cache line of its own on both sides, so that neither is luckier. */
+/* Of either kind, and some room behind the marks. Each buffer begins on a cache line of its own on both sides, so that
+ * neither is luckier. */
 typedef struct {
     _Alignas(64) costerbloom_receiver receiver;
     _Alignas(64) uint8_t memory[COSTERBLOOM_MEMORY];
+    _Alignas(64) uint8_t marks[COSTERBLOOM_MARKS + 3];
     _Alignas(64) uint8_t receive[COSTERBLOOM_LONGEST];
     _Alignas(64) uint8_t reply[COSTERBLOOM_LONGEST];
 } box;
@@ -44,7 +46,8 @@ static inline int same_receiver(const costerbloom_receiver *a, const costerbloom
 static inline int same_box(const box *a, const box *b)
 {
     return same_receiver(&a->receiver, &b->receiver) && same(a->memory, b->memory, sizeof a->memory) &&
-           same(a->receive, b->receive, sizeof a->receive) && same(a->reply, b->reply, sizeof a->reply);
+           same(a->marks, b->marks, sizeof a->marks) && same(a->receive, b->receive, sizeof a->receive) &&
+           same(a->reply, b->reply, sizeof a->reply);
 }
 
 /* Whether both sides scale every value alike, and show a POD's shared fields and a Bass POD's bytes back alike. */

@@ -1,11 +1,11 @@
 /* The box on a bench: two inputs and two outputs (files, pipes or devices) stand for the two MIDI sockets, and a file
- * for the memory that outlives the power. All that is judged, stored and answered is the proved library's work; this
- * loop brings it the bytes and carries its replies away.
+ * for the memory and the marks that outlive the power. All that is judged, stored and answered is the proved library's
+ * work; this loop brings it the bytes and carries its replies away.
  *
  * As on a MIDI wire, one byte goes at a time: a turn takes one byte from each input that is ready, or brings one byte
  * of a reply to an output. Once all is open nothing but poll waits for a byte, so neither socket waits for the other.
- * Once something was stored and no byte can be moved, memory is saved, at most once a second: what a power cut can lose
- * is what came since the last save. */
+ * Once something was stored and no byte can be moved, memory and marks are saved, at most once a second: what a power
+ * cut can lose is what came since the last save. */
 #include <costerbloom.h>
 #include <system.h>
 
@@ -43,8 +43,10 @@ struct socket {
     size_t reply_length, sent; /* sent < reply_length: a reply is on its way */
 };
 
-/* All zero at the start: fresh memory, fresh receivers; as long as either kind needs them. */
+/* All zero at the start: fresh memory, fresh receivers; as long as either kind needs them. Fresh marks are 1, and are
+ * set in `load`. */
 static uint8_t memory[COSTERBLOOM_MEMORY];
+static uint8_t marks[COSTERBLOOM_MARKS];
 static struct socket sockets[SOCKETS];
 static const struct unit *unit;
 static int stop_pipe[2]; /* a signal to stop is one more thing that poll can wait for */
@@ -103,8 +105,8 @@ static void take(uint32_t which, uint8_t byte)
 {
     struct socket *socket = &sockets[which];
     uint64_t answer = costerbloom_take(&socket->receiver, which, byte, unit->kind, CHANNEL, OMNI, REVISION0, REVISION1,
-        REVISION2, REVISION3, memory, sizeof memory, socket->receive, sizeof socket->receive, socket->reply,
-        sizeof socket->reply);
+        REVISION2, REVISION3, memory, sizeof memory, marks, sizeof marks, socket->receive, sizeof socket->receive,
+        socket->reply, sizeof socket->reply);
     unsigned number = answer & 0xFF;
     if (number >= FIRST_FAULT)
         give_up(number);
@@ -173,7 +175,7 @@ static int patience(void)
 /* A save that fails has said so. The programs are still here, and it is tried again a second later. */
 static _Bool save(const char *programs)
 {
-    _Bool saved = programs_save(programs, memory, unit->memory);
+    _Bool saved = programs_save(programs, memory, unit->memory, marks);
     if (saved)
         lacking = NOTHING;
     next_save = now() + BETWEEN_SAVES;
@@ -215,7 +217,9 @@ static _Bool set_as(const char *word)
 static _Bool load(const char *programs)
 {
     _Bool found;
-    if (!programs_load(programs, memory, unit->memory, &found))
+    for (size_t place = 0; place < sizeof marks; place++)
+        marks[place] = 1;
+    if (!programs_load(programs, memory, unit->memory, marks, &found))
         return 0;
     lacking = found ? NOTHING : ITSELF;
     return 1;
@@ -226,10 +230,10 @@ int main(int count, char **words)
     if (count != 7 || !set_as(words[1])) {
         say("usage: box KIND PROGRAMS INPUT0 INPUT1 OUTPUT0 OUTPUT1\n"
             "KIND is the word pod or bass. Bytes that come on sockets 0 and 1 are read from INPUT0 and INPUT1,\n"
-            "replies are written to OUTPUT0 and OUTPUT1. The file PROGRAMS keeps the programs and the edit buffer,\n"
-            "2664 bytes of a pod, 2960 of a bass, from one run to the next: it is read at the start, and replaced\n"
-            "where something was stored: as soon as no byte waits, at most once a second, and when both inputs have\n"
-            "ended, or at SIGINT or SIGTERM.\n");
+            "replies are written to OUTPUT0 and OUTPUT1. The file PROGRAMS keeps the programs, the edit buffer and\n"
+            "the marks, 2701 bytes of a pod, 2997 of a bass, from one run to the next: it is read at the start, also\n"
+            "one of an earlier version, without marks, and replaced where something was stored: as soon as no byte\n"
+            "waits, at most once a second, and when both inputs have ended, or at SIGINT or SIGTERM.\n");
         return MISUSED;
     }
     const char *programs = words[2];

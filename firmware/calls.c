@@ -6,6 +6,7 @@
 #include "report.h"
 
 enum { TAKEN = 0, STORED = 1, REPLIED = 2, IDENTIFIED = REPLIED + (17 << 8), NOT_OURS = 11, NO_CONTROLLER = 21 };
+enum { TOO_LONG = 10, WRONG_LENGTH = 13, NO_PROGRAM = 14, WRONG_VERSION = 15, ABOVE_0F = 16 };
 enum { OTHER_CHANNEL = 22, SHORT = 30, NO_SOCKET = 31, NOT_SOUND = 32, REFUSED = 65536 };
 enum { APPLIED = 3, NOT_IN_TABLE = 17, OUT_OF_RANGE = 18, NOT_SELECTED = 19, TOO_MANY = 33, FEW_NUMBERS = 34 };
 enum { FILLED = 0x5A };
@@ -29,35 +30,77 @@ _Static_assert(COSTERBLOOM_POD_PROGRAM == 72 && COSTERBLOOM_BASS_POD_PROGRAM == 
 _Static_assert(COSTERBLOOM_POD_MEMORY == 2664 && COSTERBLOOM_BASS_POD_MEMORY == 2960, "memory");
 _Static_assert(COSTERBLOOM_POD_LONGEST == 5193 && COSTERBLOOM_BASS_POD_LONGEST == 5769, "the longest message");
 _Static_assert(COSTERBLOOM_MEMORY == 2960 && COSTERBLOOM_LONGEST == 5769, "the largest");
+_Static_assert(COSTERBLOOM_MARKS == 37, "the marks");
 _Static_assert(COSTERBLOOM_MOST_MOVES == 256, "the longest list");
 
 /* One past the kinds, two that are a kind if they are cut to 8 or 16 bits, and the highest. */
 static const uint32_t no_kinds[] = {2, 256, 65537, 0xFFFFFFFF};
 
 /* The arguments of a call beside the kind, one of them amiss in each row but the first, and the answers of the three
- * calls that have settings. Of each buffer so many bytes are lacking: for a list, `reply` says it of its numbers. */
+ * calls that have settings. So many marks are lent; of each other buffer so many bytes are lacking: for a list, `reply`
+ * says it of its numbers. */
 static const struct arguments {
     const char *amiss;
     uint32_t socket;
     uint8_t channel, omni, revision[4];
-    size_t memory, receive, reply;
+    size_t memory, marks, receive, reply;
     uint64_t take, whole, moves;
 } rows[] = {
-    {"nothing", 1, 5, 0, {1, 2, 3, 4}, 0, 0, 0, IDENTIFIED, IDENTIFIED, TAKEN},
-    {"channel", 1, 4, 0, {1, 2, 3, 4}, 0, 0, 0, OTHER_CHANNEL, OTHER_CHANNEL, TAKEN},
-    {"channel, omni", 1, 4, 1, {1, 2, 3, 4}, 0, 0, 0, IDENTIFIED, IDENTIFIED, TAKEN},
-    {"socket", 2, 5, 0, {1, 2, 3, 4}, 0, 0, 0, NO_SOCKET, IDENTIFIED, TAKEN},
-    {"socket, wide", 0x80000001, 5, 0, {1, 2, 3, 4}, 0, 0, 0, NO_SOCKET, IDENTIFIED, TAKEN},
-    {"channel range", 1, 16, 1, {1, 2, 3, 4}, 0, 0, 0, NOT_SOUND, NOT_SOUND, NOT_SOUND},
-    {"omni range", 1, 5, 2, {1, 2, 3, 4}, 0, 0, 0, NOT_SOUND, NOT_SOUND, NOT_SOUND},
-    {"revision0 range", 1, 5, 0, {0x80, 2, 3, 4}, 0, 0, 0, NOT_SOUND, NOT_SOUND, NOT_SOUND},
-    {"revision1 range", 1, 5, 0, {1, 0x80, 3, 4}, 0, 0, 0, NOT_SOUND, NOT_SOUND, NOT_SOUND},
-    {"revision2 range", 1, 5, 0, {1, 2, 0x80, 4}, 0, 0, 0, NOT_SOUND, NOT_SOUND, NOT_SOUND},
-    {"revision3 range", 1, 5, 0, {1, 2, 3, 0x80}, 0, 0, 0, NOT_SOUND, NOT_SOUND, NOT_SOUND},
-    {"memory length", 1, 5, 0, {1, 2, 3, 4}, 1, 0, 0, SHORT, SHORT, SHORT},
-    {"receive length", 1, 5, 0, {1, 2, 3, 4}, 0, 1, 0, SHORT, IDENTIFIED, TAKEN},
-    {"reply length", 1, 5, 0, {1, 2, 3, 4}, 0, 0, 1, SHORT, SHORT, FEW_NUMBERS},
+    {"nothing", 1, 5, 0, {1, 2, 3, 4}, 0, 37, 0, 0, IDENTIFIED, IDENTIFIED, TAKEN},
+    {"channel", 1, 4, 0, {1, 2, 3, 4}, 0, 37, 0, 0, OTHER_CHANNEL, OTHER_CHANNEL, TAKEN},
+    {"channel, omni", 1, 4, 1, {1, 2, 3, 4}, 0, 37, 0, 0, IDENTIFIED, IDENTIFIED, TAKEN},
+    {"socket", 2, 5, 0, {1, 2, 3, 4}, 0, 37, 0, 0, NO_SOCKET, IDENTIFIED, TAKEN},
+    {"socket, wide", 0x80000001, 5, 0, {1, 2, 3, 4}, 0, 37, 0, 0, NO_SOCKET, IDENTIFIED, TAKEN},
+    {"channel range", 1, 16, 1, {1, 2, 3, 4}, 0, 37, 0, 0, NOT_SOUND, NOT_SOUND, NOT_SOUND},
+    {"omni range", 1, 5, 2, {1, 2, 3, 4}, 0, 37, 0, 0, NOT_SOUND, NOT_SOUND, NOT_SOUND},
+    {"revision0 range", 1, 5, 0, {0x80, 2, 3, 4}, 0, 37, 0, 0, NOT_SOUND, NOT_SOUND, NOT_SOUND},
+    {"revision1 range", 1, 5, 0, {1, 0x80, 3, 4}, 0, 37, 0, 0, NOT_SOUND, NOT_SOUND, NOT_SOUND},
+    {"revision2 range", 1, 5, 0, {1, 2, 0x80, 4}, 0, 37, 0, 0, NOT_SOUND, NOT_SOUND, NOT_SOUND},
+    {"revision3 range", 1, 5, 0, {1, 2, 3, 0x80}, 0, 37, 0, 0, NOT_SOUND, NOT_SOUND, NOT_SOUND},
+    {"memory length", 1, 5, 0, {1, 2, 3, 4}, 1, 37, 0, 0, SHORT, SHORT, SHORT},
+    {"marks length", 1, 5, 0, {1, 2, 3, 4}, 0, 36, 0, 0, SHORT, SHORT, TAKEN},
+    {"no marks", 1, 5, 0, {1, 2, 3, 4}, 0, 0, 0, 0, SHORT, SHORT, TAKEN},
+    {"marks, more lent", 1, 5, 0, {1, 2, 3, 4}, 0, 40, 0, 0, IDENTIFIED, IDENTIFIED, TAKEN},
+    {"receive length", 1, 5, 0, {1, 2, 3, 4}, 0, 37, 1, 0, SHORT, IDENTIFIED, TAKEN},
+    {"reply length", 1, 5, 0, {1, 2, 3, 4}, 0, 37, 0, 1, SHORT, SHORT, FEW_NUMBERS},
 };
+
+/* One mark that is another, all others set, and the answers of the two calls that are lent marks, to a box that is as
+ * in the first row else. In the last rows several things are amiss, and the answer is what is tested first; `past` is
+ * added to the kind. */
+static const struct marked {
+    const char *amiss;
+    size_t lent, place;
+    uint8_t mark;
+    uint32_t past, socket;
+    uint64_t take, whole;
+} marked[] = {
+    {"program 0's mark clear", 37, 0, 0, 0, 1, IDENTIFIED, IDENTIFIED},
+    {"program 0x23's mark clear", 37, 35, 0, 0, 1, IDENTIFIED, IDENTIFIED},
+    {"the edit buffer's mark clear", 37, 36, 0, 0, 1, IDENTIFIED, IDENTIFIED},
+    {"program 0's mark is 2", 37, 0, 2, 0, 1, NOT_SOUND, NOT_SOUND},
+    {"program 7's mark is 0x80", 37, 7, 0x80, 0, 1, NOT_SOUND, NOT_SOUND},
+    {"program 0x1F's mark is 3", 37, 31, 3, 0, 1, NOT_SOUND, NOT_SOUND},
+    {"program 0x20's mark is 0x10", 37, 32, 0x10, 0, 1, NOT_SOUND, NOT_SOUND},
+    {"program 0x23's mark is 2", 37, 35, 2, 0, 1, NOT_SOUND, NOT_SOUND},
+    {"the edit buffer's mark is 2", 37, 36, 2, 0, 1, NOT_SOUND, NOT_SOUND},
+    {"the edit buffer's mark is 0xFF, more lent", 40, 36, 0xFF, 0, 1, NOT_SOUND, NOT_SOUND},
+    {"2 behind the marks, not lent", 37, 37, 2, 0, 1, IDENTIFIED, IDENTIFIED},
+    {"2 behind the marks, lent", 40, 37, 2, 0, 1, IDENTIFIED, IDENTIFIED},
+    {"0xFF behind the marks, lent", 40, 39, 0xFF, 0, 1, IDENTIFIED, IDENTIFIED},
+    {"30 before 31 and 32 of a mark", 36, 0, 2, 0, 2, SHORT, SHORT},
+    {"31 before 32 of a mark", 37, 36, 2, 0, 2, NO_SOCKET, NOT_SOUND},
+    {"32 of the kind before 30 of marks", 36, 0, 1, 2, 1, NOT_SOUND, NOT_SOUND},
+};
+
+/* What a dump or a request names: its type, and of type 0 its program; that is so many programs from one on, where the
+ * edit buffer is number 36. */
+static const struct named {
+    uint8_t type, program;
+    size_t first, programs;
+} names[] = {{0, 0, 0, 1}, {0, 7, 7, 1}, {0, 0x23, 0x23, 1}, {1, 0, 36, 1}, {2, 0, 0, 36}};
+static const struct named *const last_program = &names[2], *const edit_buffer = &names[3];
+static const struct named *const all_programs = &names[4], *const names_end = names + 5;
 
 /* A scene for each kind: its moves, the number of each, and what an edit buffer that was zero holds then. A POD's byte
  * 46 is 0 at first, which selects 51, and a move of 19 makes it 2, which selects 55 and 56; 62 keeps what 30 stored. On
@@ -114,7 +157,9 @@ static const struct length {
 
 static costerbloom_move long_list[65537];
 static uint8_t numbers[300];
-static uint8_t memory[COSTERBLOOM_MEMORY], receive[COSTERBLOOM_LONGEST], reply[COSTERBLOOM_LONGEST];
+static uint8_t memory[COSTERBLOOM_MEMORY], marks[COSTERBLOOM_MARKS + 3];
+static uint8_t receive[COSTERBLOOM_LONGEST], reply[COSTERBLOOM_LONGEST];
+static uint8_t dump[COSTERBLOOM_LONGEST + 1]; /* one that is sent, or a byte more */
 static _Bool wrong;
 
 static void expect(_Bool right, const char *call, const char *what)
@@ -136,7 +181,7 @@ static uint64_t identify_by_take(const struct kind *k, const struct arguments *a
     uint64_t answer = 0;
     for (size_t place = 0; place < sizeof request; place++)
         answer = costerbloom_take(&receiver, a->socket, request[place], k->number, a->channel, a->omni, a->revision[0],
-            a->revision[1], a->revision[2], a->revision[3], memory, k->memory - a->memory, receive,
+            a->revision[1], a->revision[2], a->revision[3], memory, k->memory - a->memory, marks, a->marks, receive,
             k->longest - a->receive, reply, k->longest - a->reply);
     return answer;
 }
@@ -144,13 +189,24 @@ static uint64_t identify_by_take(const struct kind *k, const struct arguments *a
 static uint64_t identify_by_whole(const struct kind *k, const struct arguments *a)
 {
     return costerbloom_whole(request, sizeof request, k->number, a->channel, a->omni, a->revision[0], a->revision[1],
-        a->revision[2], a->revision[3], memory, k->memory - a->memory, reply, k->longest - a->reply);
+        a->revision[2], a->revision[3], memory, k->memory - a->memory, marks, a->marks, reply, k->longest - a->reply);
 }
 
 static void expect_identity(const struct kind *k, _Bool answered, const char *call)
 {
     for (size_t place = 0; place < sizeof k->identity; place++)
         expect(reply[place] == (answered ? k->identity[place] : 0), call, "reply");
+}
+
+/* The two calls that may identify. The reply starts from zero at each. */
+static void expect_identified(const struct kind *k, const struct arguments *a)
+{
+    fill(reply, sizeof reply, 0);
+    expect(identify_by_take(k, a) == a->take, "take", a->amiss);
+    expect_identity(k, a->take == IDENTIFIED, "take");
+    fill(reply, sizeof reply, 0);
+    expect(identify_by_whole(k, a) == a->whole, "whole", a->amiss);
+    expect_identity(k, a->whole == IDENTIFIED, "whole");
 }
 
 /* The scene from zero, its numbers filled before. */
@@ -178,18 +234,34 @@ static void expect_scene(const struct kind *k, _Bool taken)
     expect(is_full_of(memory, sizeof memory, 0), "moves", "memory beside the edit buffer");
 }
 
-/* The three calls over all rows. The reply starts from zero at each. */
+/* The three calls over all rows. */
 static void expect_rows(const struct kind *k)
 {
+    fill(marks, sizeof marks, 1);
     for (const struct arguments *a = rows; a < rows + sizeof rows / sizeof *rows; a++) {
-        fill(reply, sizeof reply, 0);
-        expect(identify_by_take(k, a) == a->take, "take", a->amiss);
-        expect_identity(k, a->take == IDENTIFIED, "take");
-        fill(reply, sizeof reply, 0);
-        expect(identify_by_whole(k, a) == a->whole, "whole", a->amiss);
-        expect_identity(k, a->whole == IDENTIFIED, "whole");
+        expect_identified(k, a);
         expect(move_scene(k, a) == a->moves, "moves", a->amiss);
         expect_scene(k, a->moves == TAKEN);
+    }
+}
+
+static void expect_marked(const struct kind *k)
+{
+    for (const struct marked *m = marked; m < marked + sizeof marked / sizeof *marked; m++) {
+        struct kind other = *k;
+        struct arguments a = rows[0];
+        other.number += m->past;
+        a.amiss = m->amiss;
+        a.socket = m->socket;
+        a.marks = m->lent;
+        a.take = m->take;
+        a.whole = m->whole;
+        fill(marks, sizeof marks, 1);
+        marks[m->place] = m->mark;
+        expect_identified(&other, &a);
+        expect(marks[m->place] == m->mark, m->amiss, "that mark changes");
+        marks[m->place] = 1;
+        expect(is_full_of(marks, sizeof marks, 1), m->amiss, "another mark changes");
     }
 }
 
@@ -225,12 +297,14 @@ static void expect_lengths(const struct kind *k)
 /* A byte, a whole message, and a list of one move, for a box on channel 0 that lends these lengths. */
 static uint64_t take(costerbloom_receiver *receiver, uint8_t byte, uint32_t kind, size_t most_memory, size_t most)
 {
-    return costerbloom_take(receiver, 0, byte, kind, 0, 0, 1, 2, 3, 4, memory, most_memory, receive, most, reply, most);
+    return costerbloom_take(receiver, 0, byte, kind, 0, 0, 1, 2, 3, 4, memory, most_memory, marks, COSTERBLOOM_MARKS,
+        receive, most, reply, most);
 }
 
 static uint64_t whole(const uint8_t *message, size_t length, uint32_t kind, size_t most_memory, size_t most)
 {
-    return costerbloom_whole(message, length, kind, 0, 0, 1, 2, 3, 4, memory, most_memory, reply, most);
+    return costerbloom_whole(
+        message, length, kind, 0, 0, 1, 2, 3, 4, memory, most_memory, marks, COSTERBLOOM_MARKS, reply, most);
 }
 
 static uint64_t move(uint32_t kind, size_t most_memory)
@@ -243,6 +317,7 @@ static void expect_no_kind(uint32_t kind, size_t most_memory, size_t most)
 {
     costerbloom_receiver receiver = {.stored = 5, .inside = 1};
     fill(memory, sizeof memory, FILLED);
+    fill(marks, sizeof marks, 1);
     fill(receive, sizeof receive, FILLED);
     fill(reply, sizeof reply, FILLED);
     fill(numbers, sizeof numbers, FILLED);
@@ -256,8 +331,9 @@ static void expect_no_kind(uint32_t kind, size_t most_memory, size_t most)
     expect(receiver.stored == 5 && receiver.inside == 1 && receiver.over == 0 && receiver.running == 0 &&
                receiver.held == 0 && receiver.waiting == 0,
         "take", "a kind that is none changes the receiver");
-    expect(is_full_of(memory, sizeof memory, FILLED) && is_full_of(receive, sizeof receive, FILLED) &&
-               is_full_of(reply, sizeof reply, FILLED) && is_full_of(numbers, sizeof numbers, FILLED),
+    expect(is_full_of(memory, sizeof memory, FILLED) && is_full_of(marks, sizeof marks, 1) &&
+               is_full_of(receive, sizeof receive, FILLED) && is_full_of(reply, sizeof reply, FILLED) &&
+               is_full_of(numbers, sizeof numbers, FILLED),
         "take, whole or moves", "a kind that is none changes a buffer");
 }
 
@@ -275,15 +351,206 @@ static void expect_apart(void)
     expect(take(&open, 1, bass->number, bass->memory, bass->longest) == TAKEN, "take", "5500 stored on a Bass POD");
 }
 
-/* A dump of program 0x23, taken by its own kind alone. */
-static void expect_dump(const struct kind *k, const struct kind *other, const uint8_t *dump, size_t length)
+/* What a dump and a request begin with: all before the version, or before F7. */
+static size_t head_length(const struct named *n)
+{
+    return n->type == 0 ? 8 : 7;
+}
+
+static void make_head(const struct kind *k, const struct named *n, uint8_t opcode, uint8_t *message)
+{
+    const uint8_t head[] = {0xF0, 0, 1, 0x0C, k->device, opcode, n->type, n->program};
+    for (size_t place = 0; place < head_length(n); place++)
+        message[place] = head[place];
+}
+
+/* Makes the dump, with so many bytes of each program, and gives its length. */
+static size_t make_dump(const struct kind *k, const struct named *n, size_t sent)
+{
+    size_t length = head_length(n), end = length + 1 + 2 * sent * n->programs;
+    make_head(k, n, 1, dump);
+    dump[length++] = 0;
+    for (; length < end; length++)
+        dump[length] = (uint8_t)((7 * length + length / 16) % 16);
+    dump[length++] = 0xF7;
+    return length;
+}
+
+/* A message goes to a box byte by byte, or whole. */
+static uint64_t send(const struct kind *k, const uint8_t *message, size_t length, _Bool by_bytes)
 {
     costerbloom_receiver receiver = {0};
     uint64_t answer = TAKEN;
-    expect(whole(dump, length, other->number, sizeof memory, sizeof reply) == NOT_OURS, "whole", "the other's dump");
+    if (!by_bytes)
+        return whole(message, length, k->number, k->memory, k->longest);
     for (size_t place = 0; place < length; place++)
-        answer = take(&receiver, dump[place], k->number, k->memory, k->longest);
-    expect(answer == STORED, "take", "a dump");
+        answer = take(&receiver, message[place], k->number, k->memory, k->longest);
+    return answer;
+}
+
+static _Bool is_named(const struct named *n, size_t program)
+{
+    return program >= n->first && program < n->first + n->programs;
+}
+
+/* What a place of memory holds where the dump is stored: what has come, in a spare byte that has not come 0, and what
+ * it held before in all that the dump does not name. */
+static uint8_t stored_at(const struct kind *k, const struct named *n, size_t sent, size_t place)
+{
+    size_t program = place / k->program, byte = place % k->program;
+    if (!is_named(n, program))
+        return FILLED;
+    if (byte >= sent)
+        return 0;
+    const uint8_t *halves = dump + head_length(n) + 1 + 2 * ((program - n->first) * sent + byte);
+    return (uint8_t)(halves[0] << 4 | halves[1]);
+}
+
+/* A dump that is stored: of a POD it sets the marks of what it names, or clears them, of a Bass POD none. */
+static void expect_stored(const struct kind *k, const struct named *n, size_t sent, uint8_t before, _Bool by_bytes)
+{
+    fill(memory, sizeof memory, FILLED);
+    fill(marks, sizeof marks, before);
+    size_t length = make_dump(k, n, sent);
+    expect(send(k, dump, length, by_bytes) == STORED, by_bytes ? "take" : "whole", "a dump");
+    for (size_t place = 0; place < sizeof memory; place++)
+        expect(memory[place] == stored_at(k, n, sent, place), "a dump", "what is stored");
+    for (size_t place = 0; place < sizeof marks; place++)
+        expect(marks[place] == (k == pod && is_named(n, place) ? sent == k->program : before), "a dump", "marks");
+}
+
+/* A request that is answered with so many bytes of each program, which are memory's. */
+static void expect_reply(const struct kind *k, const struct named *n, size_t sent, _Bool by_bytes)
+{
+    uint8_t ask[9];
+    size_t head = head_length(n), end = head + 1 + 2 * sent * n->programs;
+    make_head(k, n, 0, ask);
+    ask[head] = 0xF7;
+    fill(reply, sizeof reply, FILLED);
+    uint64_t answer = send(k, ask, head + 1, by_bytes);
+    expect(answer == REPLIED + ((end + 1) << 8), by_bytes ? "take" : "whole", "a request");
+    for (size_t place = 0; place < head; place++)
+        expect(reply[place] == (place == 5 ? 1 : ask[place]), "a reply", "how it begins");
+    expect(reply[head] == 0 && reply[end] == 0xF7, "a reply", "version and F7");
+    for (size_t place = 0; place < sent * n->programs; place++) {
+        uint8_t byte = memory[(n->first + place / sent) * k->program + place % sent];
+        const uint8_t *halves = reply + head + 1 + 2 * place;
+        expect(halves[0] == byte >> 4 && halves[1] == (byte & 15), "a reply", "its data");
+    }
+    expect(is_full_of(reply + end + 1, sizeof reply - end - 1, FILLED), "a reply", "what is behind it");
+}
+
+/* A dump that is refused, whatever the marks. */
+static void expect_refused(const struct kind *k, size_t length, uint64_t number)
+{
+    for (uint8_t turn = 0; turn < 4; turn++) {
+        _Bool by_bytes = turn / 2;
+        fill(memory, sizeof memory, FILLED);
+        fill(marks, sizeof marks, turn % 2);
+        expect(send(k, dump, length, by_bytes) == number, by_bytes ? "take" : "whole", "a dump that is wrong");
+        expect(is_full_of(memory, sizeof memory, FILLED), "a refused dump", "memory changes");
+        expect(is_full_of(marks, sizeof marks, turn % 2), "a refused dump", "a mark changes");
+    }
+}
+
+/* A dump of a length that is taken, with a version, a data byte, a program or, at last, another length that is not. */
+static void expect_spoiled(const struct kind *k, const struct named *n, size_t sent)
+{
+    size_t length = make_dump(k, n, sent), version = head_length(n);
+    dump[version] = 1;
+    expect_refused(k, length, WRONG_VERSION);
+    dump[version] = 0;
+    dump[length - 2] |= 0x10;
+    expect_refused(k, length, ABOVE_0F);
+    dump[7] = 0x24;
+    if (n->type == 0)
+        expect_refused(k, length, NO_PROGRAM);
+    dump[length - 2] = 0xF7;
+    expect_refused(k, length - 1, WRONG_LENGTH);
+    dump[length - 2] = dump[length - 1] = 0;
+    dump[length] = 0xF7;
+    expect_refused(k, length + 1, length == k->longest ? TOO_LONG : WRONG_LENGTH);
+}
+
+/* All programs, of which one lacks its spare byte, or one alone has it. */
+static void expect_uneven(void)
+{
+    size_t longer = make_dump(pod, all_programs, 72), shorter = make_dump(pod, all_programs, 71);
+    dump[shorter - 1] = dump[shorter] = 0;
+    dump[shorter + 1] = 0xF7;
+    expect_refused(pod, shorter + 2, WRONG_LENGTH);
+    make_dump(pod, all_programs, 72);
+    dump[longer - 3] = 0xF7;
+    expect_refused(pod, longer - 2, WRONG_LENGTH);
+}
+
+/* Dumps of every type, in and out, with the bytes that a unit of this kind may send of a program; with one less the
+ * length is wrong. */
+static void expect_dumps(const struct kind *k)
+{
+    for (const struct named *n = names; n < names_end; n++) {
+        size_t shorter = k->program - (k == pod);
+        for (uint8_t turn = 0; turn < 8; turn++) {
+            size_t sent = turn < 4 ? k->program : shorter;
+            expect_stored(k, n, sent, turn % 2, turn / 2 % 2);
+            expect_reply(k, n, sent, turn / 2 % 2);
+        }
+        expect_spoiled(k, n, k->program);
+        expect_spoiled(k, n, shorter);
+        expect_refused(k, make_dump(k, n, shorter - 1), WRONG_LENGTH);
+    }
+}
+
+/* Never 0. */
+static uint8_t held_at(size_t place)
+{
+    return (uint8_t)((5 * place + place / 256) | 1);
+}
+
+/* One mark against all others, set or clear: a POD's reply is long where all marks are set of what is asked for. No
+ * byte of memory is 0, and none changes, a spare one neither. */
+static void expect_replies(const struct kind *k)
+{
+    for (size_t place = 0; place < sizeof memory; place++)
+        memory[place] = held_at(place);
+    for (size_t turn = 0; turn < 2 * COSTERBLOOM_MARKS; turn++) {
+        uint8_t others = turn % 2, *mark = &marks[turn / 2];
+        fill(marks, sizeof marks, others);
+        *mark = !others;
+        for (const struct named *n = names; n < names_end; n++) {
+            _Bool is_short = k == pod && !is_full_of(marks + n->first, n->programs, 1);
+            expect_reply(k, n, k->program - is_short, turn / 2 % 2);
+        }
+        expect(*mark == !others, "a request", "that mark changes");
+        *mark = others;
+        expect(is_full_of(marks, sizeof marks, others), "a request", "another mark changes");
+    }
+    for (size_t place = 0; place < sizeof memory; place++)
+        expect(memory[place] == held_at(place), "a request", "memory changes");
+}
+
+/* A controller, program changes, an identity request, and a dump that is cut: none moves a mark, whether the edit
+ * buffer's is set alone or clear alone. */
+static void expect_left(const struct kind *k)
+{
+    static const uint8_t bytes[] = {
+        0xB0, 13, 127, 0xC0, 1, 36, 0xF0, 0x7E, 0, 6, 1, 0xF7, 0xF0, 0, 1, 0x0C, 1, 1, 1, 0, 5, 0xF6, 0xFF};
+    for (uint8_t others = 0; others < 2; others++) {
+        costerbloom_receiver receiver = {0};
+        fill(marks, sizeof marks, others);
+        marks[36] = !others;
+        for (size_t place = 0; place < sizeof bytes; place++)
+            take(&receiver, bytes[place], k->number, k->memory, k->longest);
+        expect(marks[36] == !others && is_full_of(marks, 36, others), "take", "what is no dump moves a mark");
+    }
+}
+
+/* A dump of program 0x23, taken by its own kind alone. */
+static void expect_dump(const struct kind *k, const struct kind *other)
+{
+    size_t length = make_dump(k, last_program, k->program);
+    expect(whole(dump, length, other->number, sizeof memory, sizeof reply) == NOT_OURS, "whole", "the other's dump");
+    expect(send(k, dump, length, 1) == STORED, "take", "a dump");
 }
 
 /* Every program change: 1 to 36 brings program 0 to 35 into a Bass POD's edit buffer, no other does anything. */
@@ -304,27 +571,14 @@ static void expect_changes(const struct kind *k)
     }
 }
 
-/* The edit buffer asked for: on a Bass POD now the last program, whose half bytes these are. */
-static void expect_edit(const struct kind *k, const uint8_t *halves)
-{
-    const uint8_t ask_edit[] = {0xF0, 0, 1, 0x0C, k->device, 0, 1, 0xF7};
-    uint64_t answer = whole(ask_edit, sizeof ask_edit, k->number, k->memory, k->longest);
-    expect(answer == REPLIED + ((9 + 2 * k->program) << 8), "whole", "a request for the edit buffer");
-    for (size_t place = 0; place < 2 * k->program; place++)
-        expect(reply[8 + place] == (k == bass ? halves[place] : 0), "whole", "the edit buffer");
-}
-
+/* The edit buffer is asked for at the end: on a Bass POD it is now the last program. */
 static void expect_programs(const struct kind *k)
 {
-    uint8_t dump[10 + 2 * COSTERBLOOM_BASS_POD_PROGRAM] = {0xF0, 0, 1, 0x0C, k->device, 1, 0, 0x23, 0};
-    size_t length = 10 + 2 * k->program;
-    for (size_t place = 9; place < length - 1; place++)
-        dump[place] = (uint8_t)(7 * place % 16);
-    dump[length - 1] = 0xF7;
     fill(memory, sizeof memory, 0);
-    expect_dump(k, k == pod ? bass : pod, dump, length);
+    fill(marks, sizeof marks, 1);
+    expect_dump(k, k == pod ? bass : pod);
     expect_changes(k);
-    expect_edit(k, dump + 9);
+    expect_reply(k, edit_buffer, k->program, 0);
 }
 
 /* Bench cases of document 01, the least number of Req 01, and numbers that must not be cut to a byte. */
@@ -367,13 +621,18 @@ int main(void)
 {
     for (const struct kind *k = kinds; k < kinds_end; k++) {
         expect_rows(k);
+        expect_marked(k);
         expect_lengths(k);
         expect_programs(k);
+        expect_dumps(k);
+        expect_replies(k);
+        expect_left(k);
     }
     for (size_t i = 0; i < sizeof no_kinds / sizeof *no_kinds; i++) {
         expect_no_kind(no_kinds[i], sizeof memory, sizeof reply);
         expect_no_kind(no_kinds[i], 0, 0);
     }
+    expect_uneven();
     expect_apart();
     expect_numbers();
     expect_bass_numbers();

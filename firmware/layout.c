@@ -74,12 +74,13 @@ static struct {
     uint8_t between[BESIDE], numbers[MOVES], after[BESIDE];
 } listed;
 
-static uint8_t memory[COSTERBLOOM_MEMORY], receive[COSTERBLOOM_LONGEST], reply[COSTERBLOOM_LONGEST];
+static uint8_t memory[COSTERBLOOM_MEMORY], marks[COSTERBLOOM_MARKS];
+static uint8_t receive[COSTERBLOOM_LONGEST], reply[COSTERBLOOM_LONGEST];
 
 static void take(uint8_t byte, uint32_t kind)
 {
-    costerbloom_take(&lent.receiver, 0, byte, kind, 0, 0, 0, 0, 0, 0, memory, sizeof memory, receive, sizeof receive,
-        reply, sizeof reply);
+    costerbloom_take(&lent.receiver, 0, byte, kind, 0, 0, 0, 0, 0, 0, memory, sizeof memory, marks, sizeof marks,
+        receive, sizeof receive, reply, sizeof reply);
 }
 
 static _Bool differs(const char *fed, const char *what)

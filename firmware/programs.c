@@ -8,39 +8,67 @@ enum { NOT_OPEN = -1 };
 static char new_name[4096]; /* the system's own limit, with the closing zero */
 static int new_file = NOT_OPEN;
 
+static void say_that(const char *name, const char *what)
+{
+    say("box: ");
+    say(name);
+    say(what);
+}
+
 /* A file of another length is not ours, or is the other kind's: it is refused here, before anything of it could be
  * written over. */
 static _Bool has_another_length(const char *name, size_t found, size_t length)
 {
-    say("box: ");
-    say(name);
-    say(" is not a programs file of this kind: it has ");
+    say_that(name, " is not a programs file of this kind: it has ");
     say_number(found);
     say(" bytes and not ");
+    say_number(length + COSTERBLOOM_MARKS);
+    say(", or without marks ");
     say_number(length);
     say("\n");
     return 0;
 }
 
-static _Bool read_whole(int file, const char *name, uint8_t *memory, size_t length)
+/* With another number among them the library would refuse every byte: the file is refused before. */
+static _Bool are_marks(const char *name, const uint8_t *marks)
+{
+    for (size_t place = 0; place < COSTERBLOOM_MARKS; place++)
+        if (marks[place] > 1) {
+            say_that(name, " is not a programs file: its mark ");
+            say_number(place);
+            say(" is ");
+            say_number(marks[place]);
+            say(" and neither 0 nor 1\n");
+            return 0;
+        }
+    return 1;
+}
+
+static _Bool read_part(int file, const char *name, size_t place, uint8_t *part, size_t length)
+{
+    return pread(file, part, length, (long)place) == (ptrdiff_t)length || failed("read", name);
+}
+
+static _Bool read_whole(int file, const char *name, uint8_t *memory, size_t length, uint8_t *marks)
 {
     long found = lseek(file, 0, SEEK_END);
     if (found < 0)
         return failed("read", name);
-    if ((size_t)found != length)
+    if ((size_t)found == length)
+        return read_part(file, name, 0, memory, length);
+    if ((size_t)found != length + COSTERBLOOM_MARKS)
         return has_another_length(name, (size_t)found, length);
-    if (pread(file, memory, length, 0) != found)
-        return failed("read", name);
-    return 1;
+    return read_part(file, name, 0, memory, length) && read_part(file, name, length, marks, COSTERBLOOM_MARKS) &&
+           are_marks(name, marks);
 }
 
-_Bool programs_load(const char *name, uint8_t *memory, size_t length, _Bool *found)
+_Bool programs_load(const char *name, uint8_t *memory, size_t length, uint8_t *marks, _Bool *found)
 {
     int file = open(name, O_RDONLY);
     *found = file >= 0;
     if (file < 0)
         return errno == ENOENT || failed("read", name);
-    _Bool whole = read_whole(file, name, memory, length);
+    _Bool whole = read_whole(file, name, memory, length, marks);
     close(file);
     return whole;
 }
@@ -70,10 +98,10 @@ _Bool programs_prepare(const char *name)
     return new_file >= 0 || failed("write", new_name);
 }
 
-static _Bool write_whole(const uint8_t *memory, size_t length)
+static _Bool write_part(const uint8_t *part, size_t length)
 {
     for (size_t written = 0; written < length;) {
-        ptrdiff_t count = write(new_file, memory + written, length - written);
+        ptrdiff_t count = write(new_file, part + written, length - written);
         if (count < 0)
             return 0;
         written += (size_t)count;
@@ -82,20 +110,20 @@ static _Bool write_whole(const uint8_t *memory, size_t length)
 }
 
 /* The old file stands until the new one is whole and on the disk: a failure half way loses no program. */
-static _Bool replace(const char *name, const uint8_t *memory, size_t length)
+static _Bool replace(const char *name, const uint8_t *memory, size_t length, const uint8_t *marks)
 {
-    if (!write_whole(memory, length) || fsync(new_file) != 0)
+    if (!write_part(memory, length) || !write_part(marks, COSTERBLOOM_MARKS) || fsync(new_file) != 0)
         return failed("write", new_name);
     if (rename(new_name, name) != 0)
         return failed("replace", name);
     return 1;
 }
 
-_Bool programs_save(const char *name, const uint8_t *memory, size_t length)
+_Bool programs_save(const char *name, const uint8_t *memory, size_t length, const uint8_t *marks)
 {
     if (new_file == NOT_OPEN && !programs_prepare(name))
         return 0;
-    _Bool replaced = replace(name, memory, length);
+    _Bool replaced = replace(name, memory, length, marks);
     close(new_file);
     new_file = NOT_OPEN; /* the next save begins an empty one */
     return replaced;

@@ -2,6 +2,7 @@
  * program's own, which is painted before. Says nothing where all is well. */
 #include <costerbloom.h>
 
+#include "filled.h"
 #include "report.h"
 
 enum { MOST = 2048, PAINT = 0xA5, STORED = 1, APPLIED = 3 };
@@ -9,17 +10,18 @@ enum { SELECTOR = 46, SELECTING = 19 }; /* the byte of the edit buffer, and the 
 
 static const struct kind {
     uint32_t number;
-    size_t edit, longest;
+    size_t edit, longest, shortest; /* the last two: of a dump of all programs, by their marks */
     uint8_t request[8]; /* for all programs */
 } kinds[] = {
-    {COSTERBLOOM_POD, COSTERBLOOM_POD_MEMORY - COSTERBLOOM_POD_PROGRAM, COSTERBLOOM_POD_LONGEST,
+    {COSTERBLOOM_POD, COSTERBLOOM_POD_MEMORY - COSTERBLOOM_POD_PROGRAM, COSTERBLOOM_POD_LONGEST, 5121,
         {0xF0, 0, 1, 0x0C, 1, 0, 2, 0xF7}},
     {COSTERBLOOM_BASS_POD, COSTERBLOOM_BASS_POD_MEMORY - COSTERBLOOM_BASS_POD_PROGRAM, COSTERBLOOM_BASS_POD_LONGEST,
-        {0xF0, 0, 1, 0x0C, 2, 0, 2, 0xF7}},
+        COSTERBLOOM_BASS_POD_LONGEST, {0xF0, 0, 1, 0x0C, 2, 0, 2, 0xF7}},
 };
 
 static uint8_t stack[4 * MOST] __attribute__((aligned(16)));
-static uint8_t memory[COSTERBLOOM_MEMORY], receive[COSTERBLOOM_LONGEST], reply[COSTERBLOOM_LONGEST];
+static uint8_t memory[COSTERBLOOM_MEMORY], marks[COSTERBLOOM_MARKS];
+static uint8_t receive[COSTERBLOOM_LONGEST], reply[COSTERBLOOM_LONGEST];
 static costerbloom_receiver receiver;
 
 static costerbloom_move list[COSTERBLOOM_MOST_MOVES];
@@ -36,14 +38,14 @@ __asm__("on_stack: push %rbp\n mov %rsp, %rbp\n mov %rsi, %rsp\n call *%rdi\n mo
 
 static uint64_t take(uint8_t byte)
 {
-    return costerbloom_take(&receiver, 0, byte, kind->number, 0, 0, 1, 2, 3, 4, memory, sizeof memory, receive,
-        sizeof receive, reply, sizeof reply);
+    return costerbloom_take(&receiver, 0, byte, kind->number, 0, 0, 1, 2, 3, 4, memory, sizeof memory, marks,
+        sizeof marks, receive, sizeof receive, reply, sizeof reply);
 }
 
 static uint64_t whole(const uint8_t *message, size_t length)
 {
-    return costerbloom_whole(
-        message, length, kind->number, 0, 0, 1, 2, 3, 4, memory, sizeof memory, reply, sizeof reply);
+    return costerbloom_whole(message, length, kind->number, 0, 0, 1, 2, 3, 4, memory, sizeof memory, marks,
+        sizeof marks, reply, sizeof reply);
 }
 
 /* Each controller under each effect, at the values where a search ends first and last; and each program change. */
@@ -80,24 +82,30 @@ static void lists(void)
     }
 }
 
-/* All programs asked for and the answer sent back, byte by byte and by the panel. The receive buffer then holds the
- * answer but for its last byte. */
-static void dumps(void)
+/* All programs asked for and the answer sent back, byte by byte and by the panel, with these marks and so long. The
+ * receive buffer then holds the answer but for its last byte. */
+static void dumps_of(uint8_t mark, size_t length)
 {
+    fill(marks, sizeof marks, mark);
     for (size_t place = 0; place < sizeof kind->request; place++)
         take(kind->request[place]);
-    for (size_t place = 0; place < kind->longest; place++)
+    for (size_t place = 0; place < length; place++)
         stored += take(reply[place]) == STORED;
-    receive[kind->longest - 1] = 0xF7;
+    receive[length - 1] = 0xF7;
     whole(kind->request, sizeof kind->request);
-    stored += whole(receive, kind->longest) == STORED;
+    stored += whole(receive, length) == STORED;
+}
+
+static void dumps(void)
+{
+    dumps_of(1, kind->longest);
+    dumps_of(0, kind->shortest);
 }
 
 /* How many bytes of the stack were written. */
 static size_t used_by(void (*calls)(void))
 {
-    for (size_t place = 0; place < sizeof stack; place++)
-        stack[place] = PAINT;
+    fill(stack, sizeof stack, PAINT);
     on_stack(calls, stack + sizeof stack);
     size_t untouched = 0;
     while (untouched < sizeof stack && stack[untouched] == PAINT)
@@ -114,7 +122,7 @@ int main(void)
         within &= used_by(lists) < MOST;
         within &= used_by(dumps) < MOST;
         int changes = kind->number == COSTERBLOOM_BASS_POD ? 36 : 0;
-        done &= applied != 0 && listed != 0 && stored == changes + 2;
+        done &= applied != 0 && listed != 0 && stored == changes + 4;
     }
     if (!done)
         say("stack: the calls did not do what they should\n");

@@ -1,19 +1,32 @@
 /* Costerbloom: the proved heart of a small MIDI box, for firmware.
  *
  * A box is set as one kind of unit before use, POD or Bass POD, and every call brings that kind. Programs of the two
- * stand at different places of memory: a box that is set as the other kind begins with fresh memory and receivers.
+ * stand at different places of memory: a box that is set as the other kind begins with fresh memory, marks and
+ * receivers.
  *
  * The caller owns every buffer; no call keeps a pointer, allocates, or waits. Lent at least:
  *
  *                                                   POD   Bass POD   either
  *   memory: 36 programs, then the edit buffer     2,664      2,960    2,960
+ *   marks: one for each of these                     37         37       37
  *   a receive buffer for each socket              5,193      5,769    5,769
  *   a reply buffer                                5,193      5,769    5,769
  *   a number buffer for a list of moves           a byte for each move
  *
- * A program has 72 bytes on a POD and 80 on a Bass POD, and so has the edit buffer. Fresh memory is all zero. More may
- * be lent; the rest is not touched. What a call is lent must not overlap, no other call may use it meanwhile, and no
- * pointer may be null, not even with a length of 0. A call takes less than 2 KB of stack.
+ * A program has 72 bytes on a POD and 80 on a Bass POD, and so has the edit buffer. More may be lent; the rest is not
+ * touched. What a call is lent must not overlap, no other call may use it meanwhile, and no pointer may be null, not
+ * even with a length of 0. A call takes less than 2 KB of stack.
+ *
+ * Marks: the last of a POD program's 72 bytes is a spare, which some units do not send. One mark for each program, in
+ * number order, then the edit buffer's, says whether it was received: 1 if it was, 0 if not. A POD takes dumps of both
+ * lengths: of a program 154 bytes or 152, of the edit buffer 153 or 151, of all programs 5,193 or 5,121. A long one
+ * sets the mark of all that it brings; a short one makes the spare byte 0 and clears the mark; nothing else changes a
+ * mark. A program, or the edit buffer, is sent in the length that its mark says. All programs are sent long where the
+ * marks of all 36 are set, else short, each of them, and spare bytes that were received stay in memory. A Bass POD has
+ * one length: its marks are tested as a POD's are, and else neither read nor written.
+ *
+ * Fresh memory is all zero, and so is a fresh receiver; but fresh marks are 1, all of them, so set them before the
+ * first byte.
  *
  * Settings, the same for both kinds: channel 0 to 15, omni 0 or 1, four revision bytes of at most 0x7F.
  */
@@ -46,7 +59,10 @@ enum {
 
     /* the largest, for a box that may be set as either kind */
     COSTERBLOOM_MEMORY = COSTERBLOOM_BASS_POD_MEMORY,
-    COSTERBLOOM_LONGEST = COSTERBLOOM_BASS_POD_LONGEST
+    COSTERBLOOM_LONGEST = COSTERBLOOM_BASS_POD_LONGEST,
+
+    /* the same for every kind */
+    COSTERBLOOM_MARKS = 37
 };
 
 /* What a socket keeps between its bytes: one for each socket, lent to each of its calls. All zero is fresh. Its last
@@ -75,25 +91,27 @@ enum { COSTERBLOOM_MOST_MOVES = 256 };
  *   10  SysEx too long                            30  a lent buffer too short
  *   11  not ours, or the other kind's             31  socket not 0 or 1
  *   12  opcode or type unknown or missing         32  a kind that is none (tested before 30); receiver
- *   13  wrong length                                  not sound, or a setting out of range (tested
- *   14  program above 0x23                            after 31)
+ *   13  wrong length; on a POD a dump's is            not sound, a setting out of range, or a mark
+ *       neither the long nor the short one            of the 37 neither 0 nor 1 (tested after 31)
+ *   14  program above 0x23
  *   15  version not 0
  *   16  a data byte above 0x0F
  *
  * 10, 13 and 30 go by the kind's own lengths, and so does 32: a sound receiver has at most 5,192 bytes stored on a POD,
  * 5,768 on a Bass POD. After 2, send the first `reply length` bytes of the reply buffer; after any other number the
- * length is 0. From 10 on no byte of memory or of the reply buffer has changed; from 30 on nothing at all has, the
- * receiver neither. */
+ * length is 0. Only 1 changes marks, and only that of a dump. From 10 on no byte of memory, no mark and no byte of the
+ * reply buffer has changed; from 30 on nothing at all has, the receiver neither. */
 uint64_t costerbloom_take(costerbloom_receiver *receiver, uint32_t socket, uint8_t byte, uint32_t kind,
     uint8_t channel, uint8_t omni, uint8_t revision0, uint8_t revision1, uint8_t revision2, uint8_t revision3,
-    uint8_t *memory, size_t memory_length, uint8_t *receive, size_t receive_length,
-    uint8_t *reply, size_t reply_length);
+    uint8_t *memory, size_t memory_length, uint8_t *marks, size_t marks_length,
+    uint8_t *receive, size_t receive_length, uint8_t *reply, size_t reply_length);
 
 /* A whole message from the panel, F0 to F7, with no socket and no receiver. Gives the same numbers at the same places:
  * 1, 2, 10 to 16, 22, 30 or 32. */
 uint64_t costerbloom_whole(const uint8_t *message, size_t message_length, uint32_t kind,
     uint8_t channel, uint8_t omni, uint8_t revision0, uint8_t revision1, uint8_t revision2, uint8_t revision3,
-    uint8_t *memory, size_t memory_length, uint8_t *reply, size_t reply_length);
+    uint8_t *memory, size_t memory_length, uint8_t *marks, size_t marks_length,
+    uint8_t *reply, size_t reply_length);
 
 /* A list of moves, a scene of a lighting desk, in one call with no socket and no receiver. The moves are made one after
  * the other, each as the message B0 + channel, controller, value on a socket. So a move sees what those before it have

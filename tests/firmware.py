@@ -25,6 +25,8 @@ BOX, FAULTY, *RUNNER = sys.argv[1:]
 PATIENCE = 60  # seconds for a check, under an emulator too
 MOST_SAID = 4096  # a box that says more waits for ever, and is ended
 PROGRAMS = 36
+# "Each program and the edit buffer now carry a mark"
+SET = bytes((PROGRAMS + 1) * [1])
 
 IDENTITY = bytes.fromhex('F0 7E 7F 06 01 F7')
 # a controller, an identity request and a program change for another channel
@@ -95,6 +97,11 @@ class Kind(NamedTuple):
         """Return the bytes of all programs."""
         return pattern(PROGRAMS * self.size, seed)
 
+    def short(self, data):
+        """Return the bytes of programs without the last of each."""
+        return b''.join(data[place:][:self.size - 1]
+                        for place in range(0, len(data), self.size))
+
 
 def halves(data):
     """Return the half bytes of bytes."""
@@ -126,10 +133,10 @@ class Bench:
         self.inputs = self.folder / 'input0', self.folder / 'input1'
         self.outputs = self.folder / 'output0', self.folder / 'output1'
         self.started = []
-        # what is fed: two programs, twice all programs, and a whole memory
+        # what is fed: two programs, and twice all programs; and a file
         self.one, self.other = kind.program(3), kind.program(4)
         self.every, self.every_other = kind.programs(5), kind.programs(6)
-        self.some = pattern(kind.memory, 1)
+        self.some = pattern(kind.memory, 1) + SET
         self.zero = bytes(kind.size)
 
     def begin(self, program, *words):
@@ -243,7 +250,7 @@ def check_bench_case(bench):
     drive, bass = (4, 6) if kind is BASS else (9, 11)
     edit = bytearray(kind.size)
     edit[drive], edit[bass] = 0x7F // 2, 0x40 // 2
-    assert bench.saved() == bytes(PROGRAMS * kind.size) + edit
+    assert bench.saved() == bytes(PROGRAMS * kind.size) + edit + SET
 
 
 def check_program_change(bench):
@@ -256,7 +263,7 @@ def check_program_change(bench):
     edit = bench.some[place:][:kind.size]
     stream = bytes.fromhex('C0 01 08 00 25 7F') + kind.ask_edit()
     assert bench.run(stream, b'') == well(kind.dump_edit(edit), b'')
-    assert bench.saved() == bench.some[:-kind.size] + edit
+    assert bench.saved() == bench.some[:PROGRAMS * kind.size] + edit + SET
 
 
 def check_other_kind(bench):
@@ -274,20 +281,102 @@ def check_kept(bench):
     kind, one, other = bench.kind, bench.one, bench.other
     edit = kind.dump_edit(other)
     assert bench.run(kind.dump(0x23, one), edit) == well(b'', b'')
-    assert bench.saved() == bytes(35 * kind.size) + one + other
+    assert bench.saved() == bytes(35 * kind.size) + one + other + SET
     assert (bench.run(kind.ask_edit(), kind.ask(0x23))
             == well(edit, kind.dump(0x23, one)))
-    assert bench.saved() == bytes(35 * kind.size) + one + other
+    assert bench.saved() == bytes(35 * kind.size) + one + other + SET
     assert not bench.new.exists()
+
+
+def check_without_marks(bench):
+    """A programs file of an earlier version is read as all marks set."""
+    kind, memory = bench.kind, bench.some[:bench.kind.memory]
+    programs, edit = memory[:-kind.size], memory[-kind.size:]
+    bench.programs.write_bytes(memory)
+    assert (bench.run(kind.ask_all(), kind.ask_edit())
+            == well(kind.dump_all(programs), kind.dump_edit(edit)))
+    assert bench.saved() == memory
+    assert bench.run(kind.dump(0, bench.one), b'') == well(b'', b'')
+    assert bench.saved() == bench.one + memory[kind.size:] + SET
+
+
+def check_short(bench):
+    """What came short, the next run sends short, and nothing else."""
+    kind, size = bench.kind, bench.kind.size
+    one, other = kind.short(bench.one), kind.short(bench.other)
+    dump, edit = kind.dump(0, one), kind.dump_edit(other)
+    bench.programs.write_bytes(bench.some)
+    assert bench.run(dump, edit) == well(b'', b'')
+    # "A short dump sets the spare byte to 0 and clears the mark."
+    programs = one + b'\0' + bench.some[size:PROGRAMS * size]
+    file = programs + other + b'\0' + b'\0' + SET[1:PROGRAMS] + b'\0'
+    assert bench.saved() == file
+    # "an all programs dump is long only if all 36 marks are set"
+    every = kind.dump_all(kind.short(programs))
+    long = kind.dump(1, programs[size:][:size])
+    assert (bench.run(kind.ask(0) + kind.ask(1), kind.ask_edit()
+                      + kind.ask_all()) == well(dump + long, edit + every))
+    assert bench.saved() == file
+    long = kind.dump(0, bench.one)
+    every = kind.dump_all(bench.one + programs[size:])
+    assert bench.run(long + kind.ask_all(), b'') == well(every, b'')
+    assert bench.saved() == (bench.one + programs[size:] + other + b'\0'
+                             + SET[:PROGRAMS] + b'\0')
+
+
+def check_short_all(bench):
+    """All programs that came short are kept and sent so."""
+    kind = bench.kind
+    every = kind.dump_all(kind.short(bench.every))
+    assert bench.run(b'', every) == well(b'', b'')
+    programs = bytearray(bench.every)
+    programs[kind.size - 1::kind.size] = bytes(PROGRAMS)
+    assert bench.saved() == programs + bench.zero + bytes(PROGRAMS) + b'\1'
+    assert (bench.run(kind.ask_all(), kind.ask_edit())
+            == well(every, kind.dump_edit(bench.zero)))
+
+
+def check_mark_alone(bench):
+    """A dump that changes nothing but a mark is saved as any other."""
+    kind = bench.kind
+    bench.programs.write_bytes(bytes(kind.memory) + SET)
+    box, (in0, in1), _ = bench.live()
+    in0.write(kind.dump(0, kind.short(bench.zero)))
+    while bench.saved() != bytes(kind.memory) + b'\0' + SET[1:]:
+        time.sleep(0.02)
+    in0.close()
+    in1.close()
+    assert bench.end(box).status == 0
+
+
+def check_marks_left(bench):
+    """What is no dump moves no mark, and on a Bass POD nothing does."""
+    kind = bench.kind
+    memory = bench.some[:kind.memory]
+    marks = bytes(place % 3 % 2 for place in range(len(SET)))
+    bench.programs.write_bytes(memory + marks)
+    stream = bytes.fromhex('B0 0D 7F C0 01') + kind.ask(1) + kind.ask_all()
+    if kind is BASS:
+        stream += (kind.dump(0, bench.one) + kind.dump_all(bench.every)
+                   + kind.dump_edit(bench.other))
+    assert bench.run(stream, b''.join(refused(bench))).status == 0
+    assert bench.saved()[:kind.memory] != memory
+    assert bench.saved()[kind.memory:] == marks
 
 
 def refused(bench):
     """Return messages that store nothing, each for another reason."""
-    good = bench.kind.dump_all(bench.every)
+    kind = bench.kind
+    good = kind.dump_all(bench.every)
+    short = kind.dump_all(kind.short(bench.every))
     return (changed(good, -2, 0x10), changed(good, 7, 1),
             good[:-2] + good[-1:],
-            changed(bench.kind.dump(0, bench.one), 7, 0x24),
-            good[:-1] + b'\xF6', OTHER_CHANNEL, good[:-1])
+            changed(kind.dump(0, bench.one), 7, 0x24),
+            good[:-1] + b'\xF6', OTHER_CHANNEL, good[:-1],
+            changed(short, -2, 0x10), changed(short, 7, 1),
+            short[:-2] + short[-1:],
+            changed(kind.dump(0, kind.short(bench.one)), 7, 0x24),
+            short[:-1] + b'\xF6', short[:-1])
 
 
 def check_refused(bench):
@@ -319,14 +408,14 @@ def check_apart(bench):
     for run in (bench.run, bench.run_piped):
         assert run(stream0, stream1) == well(replies0, replies1)
         assert bench.saved() == b''.join(map(kind.program,
-                                             range(36))) + bench.zero
+                                             range(36))) + bench.zero + SET
         bench.programs.unlink()
 
 
 def check_long(bench):
     """Of two long dumps at once, one stands whole at any time."""
-    kind, ends = bench.kind, (bench.every + bench.zero,
-                              bench.every_other + bench.zero)
+    kind, ends = bench.kind, (bench.every + bench.zero + SET,
+                              bench.every_other + bench.zero + SET)
     dumps = kind.dump_all(bench.every), kind.dump_all(bench.every_other)
     # real-time bytes, so that the same place comes at different times
     streams = (dumps[0] + kind.ask_all(),
@@ -354,7 +443,7 @@ def check_mixed(bench):
     assert out1.read(len(first)) == first
     in1.close()
     assert bench.end(box).status == 0
-    assert bench.saved() == bench.every + bench.zero
+    assert bench.saved() == bench.every + bench.zero + SET
 
 
 def fill(bench):
@@ -410,7 +499,7 @@ def check_signal_when_stuck(bench):
     box, *_ = fill(bench)
     box.send_signal(signal.SIGTERM)
     assert bench.end(box).status == 0
-    assert bench.saved() == bench.every + bench.zero
+    assert bench.saved() == bench.every + bench.zero + SET
 
 
 def check_signal_when_busy(bench):
@@ -421,7 +510,7 @@ def check_signal_when_busy(bench):
         time.sleep(0.01)
     box.send_signal(signal.SIGINT)
     assert bench.end(box) == well(b'', b'')
-    assert bench.saved() == bytes(bench.kind.memory)
+    assert bench.saved() == bytes(bench.kind.memory) + SET
 
 
 def check_power_cut(bench):
@@ -434,12 +523,12 @@ def check_power_cut(bench):
     in1.write(kind.dump(9, bench.other))
     bench.wait_until_saved(9, bench.other)
     in0.write(bytes.fromhex('B0 0D 7F') + kind.dump(10, bench.one)[:-1])
-    while bench.saved()[-kind.size:] == bench.zero:
+    while bench.saved_program(PROGRAMS) == bench.zero:  # the edit buffer
         time.sleep(0.02)
     box.kill()
     box.wait()
     assert bench.saved_program(10) == bench.zero
-    assert len(bench.saved()) == kind.memory
+    assert len(bench.saved()) == kind.memory + len(SET)
     assert (bench.run(kind.ask(8), kind.ask(9))
             == well(kind.dump(8, bench.one), kind.dump(9, bench.other)))
 
@@ -511,21 +600,34 @@ def check_usage(bench):
     assert not any(bench.folder.iterdir())
 
 
+def expect_refused(bench, file, *numbers):
+    """This programs file is refused with these numbers, and not touched."""
+    bench.programs.write_bytes(file)
+    before = bench.stands()
+    ran = bench.run(bench.kind.dump(0, bench.one), IDENTITY)
+    assert ran.status == 1 and f' {bench.programs} ' in ran.said, ran
+    assert ran.said.count('\n') == 1, ran
+    assert re.findall(r' (\d+)', ran.said) == [*map(str, numbers)], ran
+    assert bench.stands() == before
+    assert bench.saved() == file
+    assert sorted(bench.folder.iterdir()) == [*bench.inputs, bench.programs]
+
+
 def check_wrong_length(bench):
-    """A programs file of another length is refused and not touched."""
-    own = bench.kind.memory
+    """A programs file of another length is refused."""
+    own, whole = bench.kind.memory, len(bench.some)
     others = {kind.memory for kind in KINDS} - {own}
-    for length in (0, 1, own - 1, own + 1, 2 * own, *others):
-        bench.programs.write_bytes(pattern(length, 9))
-        before = bench.stands()
-        ran = bench.run(bench.kind.dump(0, bench.one), IDENTITY)
-        assert ran.status == 1 and f' {bench.programs} ' in ran.said, ran
-        assert ran.said.count('\n') == 1, ran
-        assert re.findall(r' (\d+)', ran.said) == [str(length), str(own)], ran
-        assert bench.stands() == before
-        assert bench.saved() == pattern(length, 9)
-        assert sorted(bench.folder.iterdir()) == [*bench.inputs,
-                                                  bench.programs]
+    others |= {other + len(SET) for other in others}
+    for length in (0, 1, own - 1, own + 1, whole - 1, whole + 1, 2 * own,
+                   *others):
+        expect_refused(bench, pattern(length, 9), length, whole, own)
+
+
+def check_wrong_mark(bench):
+    """A programs file with a mark that is neither 0 nor 1 is refused."""
+    for place, mark in ((0, 2), (17, 0xFF), (35, 2), (36, 0x80)):
+        file = changed(bench.some, bench.kind.memory + place, mark)
+        expect_refused(bench, file, place, mark, 0, 1)
 
 
 def check_cannot_load(bench):
@@ -564,7 +666,7 @@ def check_cannot_move(bench):
     ran = bench.end(bench.start(bench.programs, bench.inputs[0], *rest))
     assert failed_at(ran, '/dev/full'), ran
     assert ran.replies[1] == replies
-    assert bench.saved() == one + other + bytes(35 * kind.size)
+    assert bench.saved() == one + other + bytes(35 * kind.size) + SET
     ran = bench.end(bench.start(bench.programs, bench.folder, *rest))
     assert failed_at(ran, bench.folder), ran
     assert ran.replies[1] == replies
@@ -625,14 +727,17 @@ def check_fault(bench):
 
 
 EITHER = (check_bench_case, check_program_change, check_other_kind,
-          check_kept, check_refused,
+          check_kept, check_without_marks, check_marks_left, check_refused,
           check_apart, check_long, check_mixed, check_unread, check_signal,
           check_signal_when_stuck, check_signal_when_busy, check_power_cut,
           check_seldom, check_waits, check_nothing_stored,
-          check_wrong_length, check_cannot_load, check_cannot_open,
+          check_wrong_length, check_wrong_mark, check_cannot_load,
+          check_cannot_open,
           check_cannot_move, check_unplugged, check_cannot_save,
           check_saved_later, check_fault)
-CHECKS = {POD: (check_exports, check_usage, *EITHER), BASS: EITHER}
+CHECKS = {POD: (check_exports, check_usage, check_short, check_short_all,
+                check_mark_alone, *EITHER),
+          BASS: EITHER}
 
 
 def out_of_patience(*_):

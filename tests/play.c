@@ -3,21 +3,21 @@
 #include <costerbloom.h>
 #include <system.h>
 
-enum { MESSAGE_ROOM = 8192, MEMORY_ROOM = 3000, BUFFER_ROOM = 5800, AT_ONCE = 65536 };
-enum { MEMORY, RECEIVE, REPLY = 3, BUFFERS };
+enum { MESSAGE_ROOM = 8192, MEMORY_ROOM = 3000, MARKS_ROOM = 40, BUFFER_ROOM = 5800, AT_ONCE = 65536 };
+enum { MEMORY, RECEIVE, REPLY = 3, MARKS, BUFFERS };
 enum { TAKEN = 0, REPLIED = 2 };
 
-/* What the player keeps, "all zero at first". */
+/* What the player keeps, "all zero at first" but for the marks, "all 1 at first". */
 static uint8_t message[MESSAGE_ROOM];
 static size_t message_length;
-static uint8_t memory[MEMORY_ROOM], receive[2][BUFFER_ROOM], reply[BUFFER_ROOM];
+static uint8_t memory[MEMORY_ROOM], marks[MARKS_ROOM], receive[2][BUFFER_ROOM], reply[BUFFER_ROOM];
 static costerbloom_receiver receivers[2];
 static uint32_t controller, kind;
 static uint64_t calls;
 static uint8_t channel, omni, revision[4] = {0x30, 0x31, 0x30, 0x30};
-static const size_t rooms[BUFFERS] = {MEMORY_ROOM, BUFFER_ROOM, BUFFER_ROOM, BUFFER_ROOM};
-static size_t lent[BUFFERS] = {
-    COSTERBLOOM_POD_MEMORY, COSTERBLOOM_POD_LONGEST, COSTERBLOOM_POD_LONGEST, COSTERBLOOM_POD_LONGEST};
+static const size_t rooms[BUFFERS] = {MEMORY_ROOM, BUFFER_ROOM, BUFFER_ROOM, BUFFER_ROOM, MARKS_ROOM};
+static size_t lent[BUFFERS] = {COSTERBLOOM_POD_MEMORY, COSTERBLOOM_POD_LONGEST, COSTERBLOOM_POD_LONGEST,
+    COSTERBLOOM_POD_LONGEST, COSTERBLOOM_MARKS};
 
 /* "A script is a run of 4-byte commands" */
 typedef struct {
@@ -99,6 +99,7 @@ static void print_answer(char letter, uint64_t answer)
     print_field(answer & 0xFF);
     print_field(length);
     print_field(digest(memory, MEMORY_ROOM));
+    print_field(digest(marks, MARKS_ROOM));
     print_field(digest(reply, BUFFER_ROOM));
     print_field(digest(receive[0], BUFFER_ROOM));
     print_field(digest(receive[1], BUFFER_ROOM));
@@ -123,7 +124,8 @@ static void take(uint32_t socket, uint8_t byte)
 {
     size_t own = socket != 0; /* "any other number is lent receiver and receive buffer 1" */
     uint64_t answer = costerbloom_take(&receivers[own], socket, byte, kind, channel, omni, revision[0], revision[1],
-        revision[2], revision[3], memory, lent[MEMORY], receive[own], lent[RECEIVE + own], reply, lent[REPLY]);
+        revision[2], revision[3], memory, lent[MEMORY], marks, lent[MARKS], receive[own], lent[RECEIVE + own], reply,
+        lent[REPLY]);
     if (answer != TAKEN) /* a length beside number 0 would be printed, and seen */
         print_answer('S', answer);
     calls++;
@@ -138,7 +140,7 @@ static void feed(uint32_t socket)
 static void whole(void)
 {
     print_answer('W', costerbloom_whole(message, message_length, kind, channel, omni, revision[0], revision[1],
-                          revision[2], revision[3], memory, lent[MEMORY], reply, lent[REPLY]));
+                          revision[2], revision[3], memory, lent[MEMORY], marks, lent[MARKS], reply, lent[REPLY]));
     calls++;
 }
 
@@ -204,6 +206,7 @@ static void play(command c)
         case 'B': message[n % MESSAGE_ROOM] = c.v; break;
         case 'P': pattern(n, c.v); break;
         case 'Y': memory[n % MEMORY_ROOM] = c.v; break;
+        case 'A': marks[n % MARKS_ROOM] = c.v; break;
         case 'C': set_channel(c.a, c.b); break;
         case 'R': revision[c.a % 4] = c.v; break;
         case 'Z': lent[c.v % BUFFERS] = least(n, rooms[c.v % BUFFERS]); break;
@@ -247,9 +250,12 @@ static int next_command(command *c)
 int main(void)
 {
     command c;
+    for (size_t place = 0; place < MARKS_ROOM; place++)
+        marks[place] = 1;
     while (next_command(&c))
         play(c);
     print_hex('m', memory, MEMORY_ROOM);
+    print_hex('k', marks, MARKS_ROOM);
     print('c');
     print_field(calls);
     print('\n');
