@@ -1,13 +1,13 @@
 """Messages for the program why: accepted ones, and bounced ones."""
 
 from functools import reduce
-from itertools import combinations
+from itertools import chain, combinations
 from random import Random
 
 from box import END_BYTE
 from kinds import ALL, DUMP, EDIT, KINDS, PROGRAM, PROGRAMS, REQUEST, others
-from messages import (PAD, changed, dump, forms, identity, inserted, noise,
-                      request, resized)
+from messages import (PAD, all_forms, changed, data_start, dump, identity,
+                      in_each_length, inserted, noise, request, resized)
 
 SEED = 2
 CHANCES = 250  # random messages, some of them alike
@@ -25,7 +25,9 @@ class Right:
         self.ask_one = request(kind, PROGRAM, 0x11)
         self.ask_edit = request(kind, EDIT)
         self.requests = (self.ask_one, self.ask_edit, request(kind, ALL))
-        self.dumps = (self.one, self.edited, self.every)
+        self.dumps = tuple(chain.from_iterable(
+            in_each_length(kind, given)
+            for given in (self.one, self.edited, self.every)))
         self.all = (ASK_WHO, *self.requests, *self.dumps)
         self.some = (ASK_WHO, self.ask_one, self.one, self.every)
 
@@ -36,7 +38,8 @@ def accepted(right):
     yield from map(identity, (0, 0x7F))
     for program in range(PROGRAMS):
         yield request(kind, PROGRAM, program)
-        yield dump(kind, PROGRAM, noise(program, kind.halves), program)
+        yield from in_each_length(kind, dump(
+            kind, PROGRAM, noise(program, kind.halves), program))
     yield from right.all
 
 
@@ -98,11 +101,11 @@ def foreign(right):
     for length in range(2, len(header)):
         yield header[:length] + END_BYTE
     for other in others(right.kind):
-        yield from forms(other, 4)
+        yield from all_forms(other, 4)
         yield changed(right.one, 4, other.device)
         yield changed(right.ask_edit, 4, other.device)
         # our header, and the other unit's length
-        for message in forms(other, 4):
+        for message in all_forms(other, 4):
             yield changed(message, 4, right.kind.device)
     # "Any other 7E message is 11."
     for asked in (0, 1):
@@ -148,18 +151,12 @@ def wrong_lengths(right):
         yield message[:-2]
         yield resized(message, len(message) - 1)
         yield resized(message, 9)
-    # Req 06: "142 half bytes a program"
-    for message, length in zip(right.dumps, (152, 151, 5121)):
-        yield resized(message, length)
-    # at the length of another form
-    yield resized(right.one, 8)
-    yield resized(right.edited, 8)
+    # at the lengths of other forms
+    for message in (right.one, right.edited, right.every):
+        for length in right.kind.every_length:
+            if length < len(message):
+                yield resized(message, length)
     yield padded(right.one, right.kind.longest)
-
-
-def places(message):
-    """Return the places of version and first data byte of a dump."""
-    return (8, 9) if message[6] == PROGRAM else (7, 8)
 
 
 def wrong_fields(right):
@@ -168,10 +165,9 @@ def wrong_fields(right):
         for program in (0x24, 0x7F):
             yield changed(message, 7, program)
     for message in right.dumps:
-        version, first = places(message)
-        last = len(message) - 2
+        first, last = data_start(message), len(message) - 2
         for byte in (1, 0x7F):
-            yield changed(message, version, byte)
+            yield changed(message, first - 1, byte)
         for place in (first, last):
             yield changed(message, place, 0x10)
         yield changed(message, (first + last) // 2, 0x7F)
@@ -194,11 +190,11 @@ def faults_of(kind, message):
               lambda whole: changed(whole, 5, 2),             # 12
               wrong_length]                                   # 13
     if message[6] == PROGRAM:
-        faults.append(lambda whole: changed(whole, 7, 0x24))      # 14
+        faults.append(lambda whole: changed(whole, 7, 0x24))       # 14
     if message[5] == DUMP:
-        version, first = places(message)
-        faults.append(lambda whole: changed(whole, version, 1))   # 15
-        faults.append(lambda whole: changed(whole, first, 0x10))  # 16
+        first = data_start(message)
+        faults.append(lambda whole: changed(whole, first - 1, 1))  # 15
+        faults.append(lambda whole: changed(whole, first, 0x10))   # 16
     return faults
 
 

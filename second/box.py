@@ -1,10 +1,10 @@
-"""The whole box of document 01 with Reqs 01 and 04, from their text alone."""
+"""The box of document 01 with Reqs 01, 04 and 06, from their text alone."""
 
 from typing import NamedTuple, Optional
 
 from controllers import TOO_SHORT, apply, back, read, scale, split
-from kinds import (BY_NUMBER, DUMP, EDIT, END, MAKER, PROGRAM, PROGRAMS,
-                   REQUEST, START)
+from kinds import (BY_NUMBER, DUMP, EDIT, END, MAKER, MARK_COUNT, PROGRAM,
+                   PROGRAMS, REQUEST, START)
 
 TOP_BYTE = 0x7F   # "Bytes below 0x80 are added"
 TOP_CHANNEL = 15  # "channel 0 to 15"
@@ -30,6 +30,9 @@ NO_SOCKET = 31        # "socket not 0 or 1"
 NOT_SOUND = 32        # "receiver not sound, or a setting out of its range"
 NO_KIND = 32          # Req 04: "a kind that is neither gives 32"
 
+# Marks: "whether the spare byte was received"
+RECEIVED, NOT_RECEIVED = 1, 0
+
 # "Identity: F0 7E cc 06 01 F7", before and after cc
 IDENTITY_FRONT = bytes.fromhex('F0 7E')
 IDENTITY_BACK = bytes.fromhex('06 01 F7')
@@ -41,7 +44,7 @@ IDENTITY_REPLY = bytes((6, 2)) + MAKER
 CONTROLLER, PROGRAM_CHANGE = 0xB, 0xC
 
 # The buffers that are lent, in the order of a kind's least lengths
-MEMORY, RECEIVE, REPLY = 0, (1, 2), 3
+MEMORY, RECEIVE, REPLY, MARKS = 0, (1, 2), 3, 4
 
 
 class Settings:
@@ -201,27 +204,29 @@ def is_identity(message):
             and message[2] <= TOP_BYTE)
 
 
-def part_of(kind, typed, named):
-    """Return the part of memory that a request or a dump is about."""
-    # "programs in number order, then the edit buffer"
+def places_of(typed, named):
+    """Return the places of what a request or a dump is about."""
+    # "programs in number order, then the edit buffer", and marks as well
     if typed == PROGRAM:
-        start = named[0] * kind.size
-        return slice(start, start + kind.size)
+        return range(named[0], named[0] + 1)
     if typed == EDIT:
-        return slice(kind.edit_start, kind.memory_length)
+        return range(PROGRAMS, PROGRAMS + 1)
     # "All programs go in number order; that dump does not touch the edit
     # buffer."
-    return slice(0, kind.edit_start)
+    return range(PROGRAMS)
 
 
 class Box:
-    """Kind, settings, memory, two sockets and a reply buffer, as lent."""
+    """Kind, settings, memory, marks, sockets and reply buffer, as lent."""
 
-    def __init__(self, kind, memory_length=None, buffer_length=None):
+    def __init__(self, kind, memory_length=None, buffer_length=None,
+                 mark_count=MARK_COUNT):
         self.kind_number = kind.number  # what every call brings
         self.settings = Settings()
         # "Fresh memory is all zero."
         self.memory = bytearray(memory_length or kind.memory_length)
+        # Req 06: "a fresh box has all marks set"
+        self.marks = bytearray((RECEIVED,)) * mark_count
         self.receivers = (Receiver(), Receiver())  # "Two sockets, 0 and 1."
         buffer_length = buffer_length or kind.longest
         self.receive = (bytearray(buffer_length), bytearray(buffer_length))
@@ -237,18 +242,22 @@ class Box:
     @property
     def edit(self):
         """Return the edit buffer of the kind that is brought."""
-        return memoryview(self.memory)[part_of(self.kind, EDIT, ())]
+        return memoryview(self.memory)[self.kind.part(PROGRAMS)]
 
     def is_short(self, *buffers):
         """Say whether one of these buffers is lent too short."""
-        return any(self.lent[buffer] < self.kind.least[buffer]
-                   for buffer in buffers)
+        least = self.kind.least
+        return any(self.lent[buffer] < least[buffer] for buffer in buffers)
+
+    def are_marks_sound(self):
+        """Say whether each mark of the box's own is 1 or 0."""
+        return {*self.marks[:MARK_COUNT]} <= {RECEIVED, NOT_RECEIVED}
 
     def whole(self, message: bytes) -> tuple:
         """Judge a message handed over at once: (number, reply length)."""
         # "30 for the memory or the reply buffer, 32 for a setting, then 10
         # if over 5,193 bytes, then 11 ...; then as above"
-        refusal = self.turn_away_call(MEMORY, REPLY)
+        refusal = self.turn_away_call(MEMORY, MARKS, REPLY)
         if refusal is not None:
             return refusal, 0
         if len(message) > self.kind.longest:
@@ -277,13 +286,14 @@ class Box:
         """Return why a byte is not taken, None where it is."""
         if self.kind is None:
             return NO_KIND
-        # "A call tests 30, 31, 32 in that order, then takes the byte."
-        if self.is_short(MEMORY, RECEIVE[own], REPLY):
+        # "A call tests 30, 31, 32 in that order, then takes the byte."; Req
+        # 06: "too few marks lent is 30, a mark neither 1 nor 0 is 32"
+        if self.is_short(MEMORY, MARKS, RECEIVE[own], REPLY):
             return TOO_SHORT
         if socket not in (0, 1):
             return NO_SOCKET
         if not (self.receivers[own].is_sound(self.kind)
-                and self.settings.in_range()):
+                and self.settings.in_range() and self.are_marks_sound()):
             return NOT_SOUND
         return None
 
@@ -298,6 +308,9 @@ class Box:
         if self.is_short(*buffers):
             return TOO_SHORT
         if not self.settings.in_range():
+            return NOT_SOUND
+        # a call that is not lent the marks does not look at them
+        if MARKS in buffers and not self.are_marks_sound():
             return NOT_SOUND
         return None
 
@@ -329,7 +342,7 @@ class Box:
 
     def recall(self, program):
         """Copy a program into the edit buffer: "and returns 1"."""
-        self.edit[:] = self.memory[part_of(self.kind, PROGRAM, (program,))]
+        self.edit[:] = self.memory[self.kind.part(program)]
         return STORED
 
     def judge_sysex(self, message):
@@ -345,7 +358,8 @@ class Box:
         form = tuple(fields[:2])
         if form not in self.kind.lengths:
             return NO_FORM, 0
-        if len(message) != self.kind.lengths[form]:
+        # Req 06: "13 is for a length that is neither"
+        if len(message) not in self.kind.lengths[form]:
             return WRONG_LENGTH, 0
         return self.judge_fields(*form, fields[2:])
 
@@ -356,13 +370,13 @@ class Box:
         named, rest = fields[:count], fields[count:]
         if any(program >= PROGRAMS for program in named):
             return NO_PROGRAM, 0
-        part = part_of(self.kind, typed, named)
+        places = places_of(typed, named)
         if opcode == REQUEST:
-            return self.answer(typed, named, part)
-        return self.load(rest, part), 0
+            return self.answer(typed, named, places)
+        return self.load(rest, places), 0
 
-    def load(self, fields, part):
-        """Store "vv data" in a part of memory; return the number."""
+    def load(self, fields, places):
+        """Store "vv data" in its places; return the number."""
         if fields[0] != VERSION:
             return WRONG_VERSION
         # "Storing programs of a long dump as they arrive" is a mistake: all
@@ -371,14 +385,36 @@ class Box:
         if outcome == 'refused':
             return found
         # "Field ranges are not tested when a dump is stored."
-        self.memory[part] = found
+        size = len(found) // len(places)
+        for at, place in enumerate(places):
+            self.store(place, found[at * size:][:size])
         return STORED
 
-    def answer(self, typed, named, part):
+    def store(self, place, data):
+        """Store a program, or the edit buffer, of one length or the other."""
+        # Req 06: "A short dump sets the spare byte to 0 and clears the mark."
+        spare = bytes(self.kind.size - len(data))
+        self.memory[self.kind.part(place)] = data + spare
+        if self.kind.has_marks:
+            self.marks[place] = NOT_RECEIVED if spare else RECEIVED
+
+    def answer(self, typed, named, places):
         """Write the dump that answers a request."""
+        size = self.sent_size(places)
+        data = b''.join(self.memory[self.kind.part(place)][:size]
+                        for place in places)
         # "Requests are answered by the dump with the same type, version 0."
         return self.write(self.kind.header, (DUMP, typed), named, (VERSION,),
-                          split(self.memory[part]), END_BYTE)
+                          split(data), END_BYTE)
+
+    def sent_size(self, places):
+        """Return how many bytes of each of these places go out."""
+        # Req 06: "Single dumps go out in the length their mark says; an all
+        # programs dump is long only if all 36 marks are set."
+        if self.kind.has_marks and not all(self.marks[place] == RECEIVED
+                                           for place in places):
+            return min(self.kind.sizes)
+        return self.kind.size
 
     def identify(self, channel):
         """Answer an identity request, or refuse it with 22."""

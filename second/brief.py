@@ -6,11 +6,13 @@ from random import Random
 from box import REPLY
 from chance import add_random
 from judging import add_identities, add_orders, add_others, add_unknown
-from kinds import EDIT, EVERY_CONTROLLER, PROGRAM, others
+from kinds import EDIT, EVERY_CONTROLLER, PROGRAM, PROGRAMS, others
 from lent import (NO_CONTROLLERS, add_back, add_back_order, add_beyond,
                   add_lengths, add_long_buffers, add_odd, add_receivers,
                   add_scale_order, add_scaling, add_stale, add_turned_away,
-                  fill, full, sound, unsound)
+                  add_wrong_marks, fill, full, sound, unsound)
+from marks import (add_between, add_in_turn, add_marked, add_one_clear,
+                   add_spares, add_unmoved)
 from messages import changed, dump, identity, request, resized, wave
 from moves import MOST
 from player import ROOMS
@@ -108,8 +110,19 @@ def add_lists(script, receivers):
     add_list_pieces(script, 1000)
 
 
+def add_marks(script):
+    """Dumps of each length, and marks, some clear at the end."""
+    kind = script.kind
+    add_wrong_marks(script, (0, PROGRAMS, PROGRAMS + 1), (2,))
+    add_in_turn(kind, script.whole, (request(kind, PROGRAM, 0x11),
+                                     request(kind, EDIT)))
+    add_marked(script, script.whole)
+    add_between(kind, script.whole)
+    add_unmoved(script, 0)
+
+
 def add_pod(script):
-    """A POD's part: document 01, and Req 01."""
+    """A POD's part: document 01, and Reqs 01 and 06."""
     kind = script.kind
     add_odd(script)
     add_receivers(script, 0, unsound(kind), 'F8')
@@ -127,6 +140,9 @@ def add_pod(script):
     add_unknown(kind, script.whole)
     add_orders(kind, partial(script.feed, 1))
     add_identities(script, partial(script.feed, 0), ((9, 0), (15, 1)))
+    add_marks(script)
+    add_one_clear(script, script.whole, (PROGRAMS - 1, PROGRAMS))
+    add_spares(script, partial(script.feed, 1))
 
 
 def add_other(script):
@@ -142,6 +158,7 @@ def add_other(script):
     add_changes(script, 0)
     add_recalled(script)
     add_controllers(script, 1, (15, 16, 63, 64), EVERY_CONTROLLER)
+    add_marks(script)
     add_pieces(script)
     add_others(kind, script.whole)
     for channel in (0, 0x7F):

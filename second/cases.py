@@ -1,7 +1,7 @@
 """Check controllers.py, box.py and moves.py against document 01's cases.
 
-Cases of Reqs 01, 04 and 05, of document 02, stand beside them. The numbers
-here are the documents', and none of them is computed from a kind.
+Cases of Reqs 01, 04, 05 and 06, of document 02, stand beside them. The
+numbers here are the documents', and none of them is computed from a kind.
 """
 
 from itertools import product
@@ -273,12 +273,14 @@ def check_kinds():
     """The lengths of each kind, as the documents give them."""
     # "2,664 bytes in all", "5,193 with F7 is the longest message"; "A Bass
     # box's longest message and its buffers are 5,769 bytes, its memory 2,960.
-    # Whole lengths are 170, 169 and 5,769; requests keep theirs."
+    # Whole lengths are 170, 169 and 5,769; requests keep theirs."; Req 06:
+    # "whole lengths 152, 151 and 5,121 too", "The Bass kind has one length"
     for kind, memory, longest, lengths in (
-            (POD, 2664, 5193, [9, 8, 8, 154, 153, 5193]),
-            (BASS, 2960, 5769, [9, 8, 8, 170, 169, 5769])):
+            (POD, 2664, 5193, [(9,), (8,), (8,), (154, 152), (153, 151),
+                               (5193, 5121)]),
+            (BASS, 2960, 5769, [(9,), (8,), (8,), (170,), (169,), (5769,)])):
         expect(f'{kind.word}, lent', kind.least,
-               (memory, longest, longest, longest))
+               (memory, longest, longest, longest, 37))
         expect(f'{kind.word}, lengths', [*kind.lengths.values()], lengths)
     # "80 data bytes a program (160 half bytes), all programs 5,760"
     expect('bass, half bytes', (BASS.halves, BASS.all_halves), (160, 5760))
@@ -413,7 +415,7 @@ def check_order():
     """32 for the kind "just before 30", in every call."""
     for number in (*NO_KINDS, 65536, 65537, 1 << 32):
         box = Box(POD)
-        box.kind_number, box.lent = number, [0] * 4
+        box.kind_number, box.lent = number, [0] * 5
         case = f'kind {number}'
         expect(case, box.take(2, 0xF8), (32, 0))
         expect(case, box.whole(b''), (32, 0))
@@ -520,7 +522,7 @@ def check_counts():
             # the last move stores what the others do not
             moves = [(13, 2)] * (count - 1) + [(13, 126)] * (count > 0)
             box, numbers = Box(kind), bytearray(room)
-            box.lent[1:] = 0, 0, 0  # no buffer but memory and the numbers
+            box.lent[1:] = [0] * 4  # no buffer but memory and the numbers
             case = f'{kind.word}, {count} moves, {room} numbers'
             expect(case, carry_out(box, moves, numbers), number)
             taken = number == 0
@@ -577,6 +579,168 @@ def check_between():
     expect('between', box.edit, b'\xA7' * 9 + b'\0' + b'\xA7' * 62)
 
 
+# Req 06
+
+HEAD = 'F0 00 01 0C 01'
+SET, CLEAR = b'\1' * 37, bytes(37)
+
+
+def marks_with(places, mark, others):
+    """Return 37 marks: these places have one mark, the others another."""
+    return bytes(mark if place in places else others for place in range(37))
+
+
+def check_dump(data, places, size):
+    """A dump of a POD, over full memory and over marks of either sort."""
+    message = bytes.fromhex(data)
+    for before, socket in product((SET, CLEAR), (None, 0, 1)):
+        box = Box(POD)
+        box.memory[:], box.marks[:] = b'\xEE' * 2664, before
+        case = f'{len(message)} bytes, marks of {before[0]}, on {socket}'
+        if socket is None:
+            expect(case, box.whole(message), (1, 0))
+        else:
+            expect(case, send(box, data, socket), [(len(message) - 1, 1, 0)])
+        # "A short dump sets the spare byte to 0 and clears the mark."
+        expect(case, box.memory, b''.join(
+            b'\xA7' * size + bytes(72 - size) if place in places
+            else b'\xEE' * 72 for place in range(37)))
+        expect(case, box.marks, marks_with(places, size == 72, before[0]))
+
+
+def check_short_dumps():
+    """Dumps of each type and length, and lengths that are neither."""
+    for form, places in (('01 00 00 00', [0]), ('01 00 23 00', [35]),
+                         ('01 01 00', [36]), ('01 02 00', range(36))):
+        for size in (71, 72):
+            halves = '0A 07' * size * len(places)
+            check_dump(f'{HEAD} {form} {halves} F7', places, size)
+    # "13 is for a length that is neither": 150 to 156, 5,120 to 5,192
+    for form, lengths in (('01 00 23 00', (150, 151, 153, 155, 156)),
+                          ('01 01 00', (150, 152, 154, 155, 156)),
+                          ('01 02 00', (152, 154, 5120, 5122, 5192))):
+        for length in lengths:
+            front = bytes.fromhex(f'{HEAD} {form}')
+            check_kept(POD, front + bytes(length - 1 - len(front)) + b'\xF7',
+                       13)
+
+
+def check_kept(kind, message, number):
+    """A message that is refused, over marks of either sort."""
+    for marks in (SET, CLEAR):
+        box = Box(kind)
+        box.marks[:] = marks
+        case = f'{kind.word}, {message[:9].hex(" ")}, {len(message)} bytes'
+        expect(case, box.whole(message), (number, 0))
+        expect(case, (any(box.memory), box.marks), (False, marks))
+
+
+def check_refused_dumps():
+    """Dumps of either length that are refused: no mark is moved."""
+    one, every = '0A 07' * 71, '0A 07' * 2556
+    for form, number in (
+            (f'01 00 23 00 {one} 10 00', 16), (f'01 01 01 {one} 00 00', 15),
+            (f'01 00 24 00 {one}', 14), (f'01 00 24 01 {one}', 14),
+            (f'01 00 23 01 {one}', 15), (f'01 01 01 {one}', 15),
+            (f'01 02 01 {every}', 15), (f'01 00 23 00 {one[:-2]} 10', 16),
+            (f'01 01 00 10 {one[2:]}', 16), (f'01 02 00 {every[:-2]} 10', 16),
+            (f'02 00 23 00 {one}', 12), (f'01 03 00 {every}', 12)):
+        check_kept(POD, bytes.fromhex(f'{HEAD} {form} F7'), number)
+    # "The Bass kind has one length only."
+    for form in (f'01 00 23 00 {one}', f'01 01 00 {one}',
+                 f'01 00 23 00 {"00" * 158}', f'01 01 00 {"00" * 158}',
+                 f'01 02 00 {every}', f'01 02 00 {"00" * 5688}'):
+        check_kept(BASS, bytes.fromhex(f'F0 00 01 0C 02 {form} F7'), 13)
+
+
+def check_reply(box, asked, front, programs):
+    """A request, and the whole reply: its programs as they are sent."""
+    before = bytes(box.memory), bytes(box.marks)
+    reply = bytes.fromhex(front) + split(programs) + b'\xF7'
+    case = f'{asked}, {box.marks.hex()}'
+    expect(case, box.whole(bytes.fromhex(f'{HEAD} {asked} F7')),
+           (2, len(reply)))
+    expect(case, box.reply[:len(reply)], reply)
+    expect(case, (box.memory, box.marks), before)
+
+
+def check_short_replies():
+    """Replies for marks of either sort; the spare bytes stay in memory."""
+    programs = [bytes((place,)) * 72 for place in range(1, 38)]
+    for places in ((), (0,), (35,), (36,), (3, 36), range(36), range(37)):
+        box = Box(POD)
+        # the spare byte is not 0 where a mark is clear: it stays
+        box.memory[:], box.marks[:] = b''.join(programs), marks_with(
+            places, 0, 1)
+        # "Single dumps go out in the length their mark says"
+        for place in (0, 3, 35):
+            size = 71 if place in places else 72
+            check_reply(box, f'00 00 {place:02X}',
+                        f'{HEAD} 01 00 {place:02X} 00',
+                        programs[place][:size])
+        check_reply(box, '00 01', f'{HEAD} 01 01 00',
+                    programs[36][:71 if 36 in places else 72])
+        # "an all programs dump is long only if all 36 marks are set"
+        size = 71 if {*places} - {36} else 72
+        check_reply(box, '00 02', f'{HEAD} 01 02 00',
+                    b''.join(one[:size] for one in programs[:36]))
+
+
+def check_marks_lent():
+    """Too few marks, and marks neither 1 nor 0, in every call."""
+    for kind in KINDS:
+        box = Box(kind, mark_count=40)
+        expect(f'{kind.word}, fresh', box.marks, b'\1' * 40)
+        # "too few marks lent is 30", before 31 and 32
+        box.lent[4], box.settings.omni = 36, 2
+        check_called(box, (30, 30, 32))
+        box.settings.omni = 0
+        check_called(box, (30, 30, 0))
+        box.lent[4] = 37
+        check_called(box, (31, 10, 0))
+        # "a mark neither 1 nor 0 is 32"; behind the 37 it is not looked at
+        box.lent[4] = 40
+        for place, mark in ((0, 2), (35, 0xFF), (36, 2), (37, 2), (39, 0xFF)):
+            box.marks[place] = mark
+            expect(f'{kind.word}, mark {place}', box.take(1, 0xF8),
+                   (32 if place < 37 else 0, 0))
+            check_called(box, (31, 32 if place < 37 else 10, 0))
+            box.marks[place] = 1
+
+
+def check_called(box, numbers):
+    """The numbers of a byte on no socket, of too long a message, of a list."""
+    expect(f'{box.kind.word}, {box.lent[4]} lent, {box.marks.hex()}',
+           (box.take(2, 0xF8), box.whole(bytes(6000)), carry_out(
+               box, [], bytearray())),
+           ((numbers[0], 0), (numbers[1], 0), numbers[2]))
+    # scaling and showing back are lent none
+    expect(f'{box.kind.word}, asked', (box.scale(13, 2), box.back(13)),
+           (('value', 1), ('value', 0)))
+
+
+def check_marks_left():
+    """What leaves the marks: all on a Bass box, all but dumps on a POD."""
+    one = '0A 07' * 80
+    for kind, marks in product(KINDS, (SET, CLEAR, marks_with([36], 0, 1))):
+        box = Box(kind)
+        box.marks[:] = marks
+        # "A controller leaves the mark as it was."; a program change too
+        send(box, 'B0 0D 7F C0 01 24 F0 7E 7F 06 01 F7')
+        carry_out(box, [(13, 2)], bytearray(1))
+        expect(f'{kind.word}, moves', box.marks, marks)
+    for marks in (SET, CLEAR):
+        box = Box(BASS)
+        box.marks[:] = marks
+        for form, answer in (
+                (f'01 00 23 00 {one}', (1, 0)), (f'01 01 00 {one}', (1, 0)),
+                (f'01 02 00 {one * 36}', (1, 0)), ('00 00 23', (2, 170)),
+                ('00 01', (2, 169)), ('00 02', (2, 5769))):
+            message = bytes.fromhex(f'F0 00 01 0C 02 {form} F7')
+            expect(f'bass, {form[:11]}', box.whole(message), answer)
+            expect(f'bass, {form[:11]}', box.marks, marks)
+
+
 def check():
     """Raise on the first wrong case."""
     check_halves()
@@ -601,6 +765,11 @@ def check():
     check_counts()
     check_list_order()
     check_between()
+    check_short_dumps()
+    check_refused_dumps()
+    check_short_replies()
+    check_marks_lent()
+    check_marks_left()
 
 
 check()

@@ -2,14 +2,14 @@
 
 from box import REPLY
 from judging import WRONG_SETTINGS
-from kinds import (ALL, EDIT, EVERY_CONTROLLER, KINDS, PROGRAM, START,
-                   others)
+from kinds import (ALL, EDIT, EVERY_CONTROLLER, KINDS, MARK_COUNT, PROGRAM,
+                   PROGRAMS, START, others)
 from lent import (COUNTS, NO_CONTROLLERS, NO_SOCKETS, VALUES, fill,
                   numbers_for, select, sound, unsound)
-from messages import (changed, dump, edit_with, identity, noise, request,
-                      resized, wave, waves)
+from messages import (changed, dump, edit_with, identity, in_each_length,
+                      noise, request, resized, wave, waves)
 from moves import MOST
-from player import MEMORY_ROOM, PARTS, ROOMS
+from player import MARK_ROOM, MEMORY_ROOM, PARTS, ROOMS
 from sockets import CHANGES
 from switched import NO_KINDS
 
@@ -63,15 +63,17 @@ def storing(kind, chance):
     """Return a dump of a program or of the edit buffer."""
     data = noise(chance.getrandbits(32), kind.halves)
     version = chance.choice((0, 0, 0, 0, 0, 0, 0, 1))
-    return chance.choice((
+    given = chance.choice((
         dump(kind, EDIT, data, version=version),
         dump(kind, PROGRAM, data, chance.randrange(0x25), version=version),
         edit_with(kind, {46: chance.randrange(17)})))
+    return chance.choice(in_each_length(kind, given))
 
 
 def storing_all(kind, chance):
     """Return a dump of all programs."""
-    return dump(kind, ALL, waves(kind, chance.getrandbits(32)))
+    given = dump(kind, ALL, waves(kind, chance.getrandbits(32)))
+    return chance.choice(in_each_length(kind, given))
 
 
 def foreign(kind, chance):
@@ -279,7 +281,7 @@ def turn_receiver(script, chance):
 
 def turn_stale(script, chance):
     """Open a SysEx over what stands in a receive buffer."""
-    lengths = script.kind.lengths.values()
+    lengths = script.kind.every_length
     script.receiver(chance.randrange(2), inside=1, stored=chance.choice(
         (1, 5, *(length - less for length in lengths for less in (1, 2)))))
 
@@ -296,9 +298,9 @@ def turn_message(script, chance):
     kind, seed = script.kind, chance.randrange(16)
     script.put(chance.choice((
         asking(kind, chance), damaged(kind, chance), foreign(kind, chance),
-        edit_with(kind, {46: seed}, seed),
-        dump(kind, PROGRAM, wave(seed, kind.halves),
-             chance.randrange(0x26)))))
+        *in_each_length(kind, edit_with(kind, {46: seed}, seed)),
+        *in_each_length(kind, dump(kind, PROGRAM, wave(seed, kind.halves),
+                                   chance.randrange(0x26))))))
 
 
 def turn_long_message(script, chance):
@@ -313,7 +315,7 @@ def turn_long_message(script, chance):
 def turn_length(script, chance):
     """Change the length of the message."""
     lengths = (length + more for kind in KINDS
-               for length in kind.lengths.values() for more in (0, 1))
+               for length in kind.every_length for more in (0, 1))
     script.edit('L', chance.choice((0, 1, 2, *lengths)))
 
 
@@ -401,6 +403,33 @@ def turn_poke(script, chance):
                 chance.randrange(256))
 
 
+def turn_marks(script, chance):
+    """Set marks, those behind the box's own to anything."""
+    for place in chance.choices(range(MARK_COUNT), k=chance.randrange(9)):
+        script.mark(place, chance.randrange(2))
+    script.mark(chance.randrange(MARK_COUNT, MARK_ROOM),
+                chance.randrange(256))
+
+
+def turn_wrong_mark(script, chance):
+    """A few calls with a mark neither 1 nor 0."""
+    place = chance.randrange(MARK_COUNT)
+    script.mark(place, chance.choice((2, 3, chance.randrange(2, 256), 0xFF)))
+    add_calls(script, chance)
+    script.mark(place, chance.randrange(2))
+
+
+def turn_spare(script, chance):
+    """Set a spare byte beside its mark, and ask for it."""
+    kind, program = script.kind, chance.randrange(PROGRAMS)
+    place, asked = chance.choice((
+        (program, request(kind, PROGRAM, program)),
+        (PROGRAMS, request(kind, EDIT))))
+    script.poke(kind.part(place).stop - 1, chance.randrange(256))
+    script.mark(place, chance.randrange(2))
+    script.whole(asked)
+
+
 # How often each turn comes.
 TURNS = {
     turn_settings: 4, turn_wrong: 3, turn_short: 4, turn_long: 3,
@@ -409,6 +438,7 @@ TURNS = {
     turn_message: 5, turn_long_message: 1, turn_length: 1, turn_byte: 3,
     turn_whole: 4, turn_feed: 6, turn_scale: 4, turn_back: 3, turn_field: 6,
     turn_raised: 4, turn_poke: 3,
+    turn_marks: 4, turn_wrong_mark: 3, turn_spare: 4,
     turn_moves: 8, turn_too_many: 1, turn_noted: 4, turn_as_moves: 3,
 }
 

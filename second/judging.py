@@ -5,8 +5,9 @@ which hands a message over: whole, or on a socket.
 """
 
 from kinds import ALL, EDIT, PROGRAM, others
-from messages import (changed, dump, dumps, forms, identity, noise, request,
-                      resized, wave, waves)
+from messages import (all_forms, changed, data_start, dump, dumps, forms,
+                      identity, in_each_length, noise, request, resized,
+                      wave, waves)
 from script import REVISION
 
 # commands that put one setting out of its range
@@ -44,7 +45,9 @@ def add_programs(kind, hand):
     """Programs above 0x23, in requests and in dumps."""
     for program in (0x24, 0x7F):
         hand(request(kind, PROGRAM, program))
-        hand(dump(kind, PROGRAM, wave(7, kind.halves), program))
+        for given in in_each_length(kind, dump(
+                kind, PROGRAM, wave(7, kind.halves), program)):
+            hand(given)
         show(kind, hand)
 
 
@@ -52,8 +55,7 @@ def add_halves(kind, hand, step):
     """One bad half byte in a dump, then its request; a good one last."""
     for given, asked in dumps(kind, 3):
         last = len(given) - 2
-        first = 9 if given[6] == PROGRAM else 8  # after "pp vv", or "vv"
-        for place in (*range(first, last, step), last):
+        for place in (*range(data_start(given), last, step), last):
             for byte in (0x10, 0x7F):
                 hand(changed(given, place, byte))
                 hand(asked)
@@ -89,11 +91,12 @@ def add_headers(kind, hand):
 def add_others(kind, hand):
     """Another unit's forms, and a dump with one unit's header only."""
     for other in others(kind):
-        for message, own in zip(forms(other, 7), forms(kind, 7)):
-            hand(message)                                # 11, or 10
-            hand(changed(own, 4, other.device))          # 11
+        for message in all_forms(other, 7):
+            hand(message)                            # 11, or 10
+        for message in all_forms(kind, 7):
+            hand(changed(message, 4, other.device))  # 11
         for given, _ in dumps(other, 7):
-            hand(changed(given, 4, kind.device))         # 13, or 10
+            hand(changed(given, 4, kind.device))     # 13, or 10
     hand(request(kind, EDIT))
 
 
@@ -108,8 +111,8 @@ def add_orders(kind, hand):
             changed(resized(worst, 20), 6, 3),                        # 12
             resized(worst, len(worst) - 1),                           # 13
             resized(request(kind, PROGRAM, 0x24), 10),                # 13
-            worst,                                                    # 14
-            dump(kind, PROGRAM, bad, 0x23, version=1),                # 15
+            *in_each_length(kind, worst),                             # 14
+            *in_each_length(kind, changed(worst, 7, 0x23)),           # 15
             dump(kind, EDIT, bad, version=0x7F)):                     # 15
         hand(message)
     show(kind, hand)

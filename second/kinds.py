@@ -1,16 +1,19 @@
 """What hangs on the kind of box: one entry each, and what follows from it.
 
-POD's page is document 01, with Req 01 of document 02; BASS's is Req 04, whose
-text names what it takes from source document 001. A further kind is a further
-entry of KINDS.
+POD's page is document 01, with Reqs 01 and 06 of document 02; BASS's is Req
+04, whose text names what it takes from source document 001. A further kind is
+a further entry of KINDS.
 """
 
 from dataclasses import dataclass
 from functools import cached_property
+from itertools import chain
 
 from controllers import TOP, read_page
 
 PROGRAMS = 36  # "36 programs (0x00 to 0x23, shown 1A to 9D)"
+# Req 06: "Each program and the edit buffer now carry a mark"
+MARK_COUNT = PROGRAMS + 1
 START, END = 0xF0, 0xF7
 REQUEST, DUMP = 0, 1          # opcodes
 PROGRAM, EDIT, ALL = 0, 1, 2  # types
@@ -23,7 +26,7 @@ class Kind:
 
     number: int      # as a call brings it
     word: str        # as a program is told it
-    size: int        # bytes of a program
+    sizes: tuple     # bytes of a program that a dump may have, most first
     device: int      # the header's last byte
     identity: bytes  # what an identity reply says it is
     changes: range   # program changes that copy a program, in number order
@@ -32,18 +35,33 @@ class Kind:
     at_least: dict   # controllers whose number is raised, and to what
 
     @property
+    def size(self):
+        """Return how many bytes of memory a program has."""
+        return self.sizes[0]
+
+    @property
+    def has_marks(self):
+        """Say whether dumps have several lengths, so that marks are kept."""
+        return len(self.sizes) > 1
+
+    def part(self, place):
+        """Return a program's part of memory, or the edit buffer's."""
+        # "programs in number order, then the edit buffer"
+        return slice(place * self.size, (place + 1) * self.size)
+
+    @property
     def edit_start(self):
-        """Return the edit buffer's place: "programs in number order, then"."""
-        return PROGRAMS * self.size
+        """Return where the edit buffer begins."""
+        return self.part(PROGRAMS).start
 
     @property
     def memory_length(self):
         """Return the length of the programs and the edit buffer."""
-        return self.edit_start + self.size
+        return self.part(PROGRAMS).stop
 
     @property
     def halves(self):
-        """Return how many half bytes a program is."""
+        """Return how many half bytes all of a program is."""
         return 2 * self.size
 
     @property
@@ -58,21 +76,32 @@ class Kind:
 
     @cached_property
     def lengths(self):
-        """Return "Whole length" by "opcode and type"."""
+        """Return each "Whole length" by "opcode and type", longest first."""
         bare = len(self.header) + 2 + 1  # opcode and type, F7
+
+        def dumped(fields, programs):
+            """Return the lengths with so many fields before the data."""
+            return tuple(bare + fields + 2 * size * programs
+                         for size in self.sizes)
+
         return {
-            (REQUEST, PROGRAM): bare + 1,  # "pp"
-            (REQUEST, EDIT): bare,
-            (REQUEST, ALL): bare,
-            (DUMP, PROGRAM): bare + 2 + self.halves,  # "pp vv data"
-            (DUMP, EDIT): bare + 1 + self.halves,     # "vv data"
-            (DUMP, ALL): bare + 1 + self.all_halves,
+            (REQUEST, PROGRAM): (bare + 1,),  # "pp"
+            (REQUEST, EDIT): (bare,),
+            (REQUEST, ALL): (bare,),
+            (DUMP, PROGRAM): dumped(2, 1),  # "pp vv data"
+            (DUMP, EDIT): dumped(1, 1),     # "vv data"
+            (DUMP, ALL): dumped(1, PROGRAMS),
         }
+
+    @cached_property
+    def every_length(self):
+        """Return the whole lengths of all forms."""
+        return tuple(chain.from_iterable(self.lengths.values()))
 
     @cached_property
     def longest(self):
         """Return the length of "the longest message", with F7."""
-        return max(self.lengths.values())
+        return max(self.every_length)
 
     @cached_property
     def most_stored(self):
@@ -82,8 +111,8 @@ class Kind:
 
     @cached_property
     def least(self):
-        """Return the least lengths of memory and of the other buffers."""
-        return (self.memory_length, *(self.longest,) * 3)
+        """Return the least lengths of memory, other buffers and marks."""
+        return (self.memory_length, *(self.longest,) * 3, MARK_COUNT)
 
     @cached_property
     def table(self):
@@ -101,7 +130,9 @@ class Kind:
 POD = Kind(
     number=0,
     word='pod',
-    size=72,  # "one edit buffer, 72 bytes each"
+    # "one edit buffer, 72 bytes each"; Req 06: "units send 142 half bytes a
+    # program, the paper's 71 bytes. On a POD box take both"
+    sizes=(72, 71),
     device=0x01,  # "All the rest begins F0 00 01 0C 01"
     identity=bytes.fromhex('00 00 00 01'),
     changes=range(0),  # "channel message other than a controller": 21
@@ -149,7 +180,9 @@ POD = Kind(
 BASS = Kind(
     number=1,
     word='bass',
-    size=80,  # "80 data bytes a program (160 half bytes)"
+    # "80 data bytes a program (160 half bytes)"; Req 06: "The Bass kind has
+    # one length only."
+    sizes=(80,),
     device=0x02,  # "device byte 02"
     identity=bytes.fromhex('02 00 00 00'),  # "identity 02 00 00 00"
     # "a program change of 1 to 36 .. copies program 0 to 35"

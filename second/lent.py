@@ -2,15 +2,17 @@
 
 from itertools import product
 
-from box import MEMORY, RECEIVE, REPLY
+from box import MARKS, MEMORY, RECEIVE, RECEIVED, REPLY
 from controllers import SELECTOR
 from judging import wrong_settings
-from kinds import ALL, EDIT, EVERY_CONTROLLER, KINDS, START
-from messages import dump, edit_with, identity, noise, request, wave
-from player import MEMORY_ROOM, MESSAGE_ROOM, ROOMS
+from kinds import (ALL, EDIT, EVERY_CONTROLLER, KINDS, MARK_COUNT, PROGRAMS,
+                   START)
+from messages import (dump, edit_with, identity, in_each_length, noise,
+                      request, wave)
+from player import MARK_ROOM, MEMORY_ROOM, MESSAGE_ROOM, ROOMS
 from scenes import add_counts, add_list_order, add_no_sockets_lent
-from script import Script
-from switched import (NO_KINDS, add_no_kinds, add_other_buffers,
+from script import REVISION, Script
+from switched import (NO_KINDS, add_calls, add_no_kinds, add_other_buffers,
                       add_switched, mend, spoil)
 
 HOLDING = {'running': 0xB0, 'held': 1}
@@ -86,10 +88,12 @@ VALUES = (*range(8), 15, 16, 21, 22, 27, 28, 63, 64, 126, 127, 128, 255, 256,
 
 
 def add_beyond(script):
-    """Bytes beyond what is lent of memory, not all zero."""
+    """Bytes beyond the box's own of memory and marks, all sorts of them."""
     most = max(kind.memory_length for kind in KINDS)
     for place in range(most, MEMORY_ROOM):
         script.poke(place, place % 256)
+    for place, mark in enumerate((2, 0, 0xFF), MARK_COUNT):
+        script.mark(place, mark)
 
 
 def add_odd(script):
@@ -104,7 +108,8 @@ def add_odd(script):
     script.add('W')
     script.add('R', 0xFE, 0xFF, 0x55)       # revision byte 2
     script.poke(MEMORY_ROOM + 9, 0x77)
-    script.lend(7, script.kind.least[REPLY])
+    script.mark(5 * MARK_ROOM + 3, 0)       # the fourth program's
+    script.lend(len(ROOMS) + REPLY, script.kind.least[REPLY])
     for part in (7, 8 + 4, 0xFF):           # no part, running, no part
         script.add('E', part, 3, 0xB0)
     script.send_hex(1, '0D 7F F7')
@@ -161,26 +166,30 @@ def add_long_buffers(script, asked):
         # "At most 5,192 are stored": a longer buffer does not raise it
         script.receiver(socket, **full(kind))
         script.send_hex(socket, '05 06 F7')
-        script.feed(socket, dump(kind, EDIT, noise(socket, kind.halves)))
-        script.feed(socket, asked)
+        for given in in_each_length(kind, dump(
+                kind, EDIT, noise(socket, kind.halves))):
+            script.feed(socket, given)
+            script.feed(socket, asked)
     for buffer in range(len(ROOMS)):
         script.lend_back(buffer)
 
 
 def add_order(script):
-    """Every choice of reasons for 32, 30, 31 and 32 at once."""
+    """Every choice of reasons for 32, 30, 31 and one for 32 at once."""
     kind = script.kind
-    choices = product((False, True), repeat=6)
-    for no_kind, short, wrong_socket, wrong, wrong_setting, buffer in choices:
+    choices = product((False, True), (False, True), range(4), (
+        None, 'receiver', 'setting', 'mark'))
+    for no_kind, wrong_socket, short, wrong in choices:
         own = 1 if wrong_socket else 0
-        tested = RECEIVE[own] if buffer else MEMORY
-        spoil(script, no_kind, short, tested)
-        if wrong_setting:
-            script.settings(16, 0)
-        script.receiver(own, **unsound(kind)[0] if wrong else full(kind))
+        buffer = (None, MEMORY, MARKS, RECEIVE[own])[short]
+        spoil(script, no_kind, buffer)
+        script.settings(16 if wrong == 'setting' else 0, 0)
+        script.mark(PROGRAMS, 2 if wrong == 'mark' else RECEIVED)
+        script.receiver(own, **unsound(kind)[0] if wrong == 'receiver'
+                        else full(kind))
         script.send_hex(2 if wrong_socket else 0, 'F7')
-        mend(script, tested)
-        script.settings(0, 0)
+        mend(script, buffer)
+    script.mark(PROGRAMS, RECEIVED)
     for socket in (0, 1):
         script.receiver(socket)
 
@@ -197,17 +206,18 @@ def add_other(script):
 
 
 def add_whole_order(script):
-    """Every choice of reasons for 32, 30, 32, 10 and 11 at once."""
+    """Every choice of reasons for 32, 30, one for 32, 10 and 11 at once."""
     kind = script.kind
-    choices = product((MEMORY, REPLY), *((False, True),) * 5)
-    for buffer, no_kind, short, wrong_setting, long, unframed in choices:
-        spoil(script, no_kind, short, buffer)
-        if wrong_setting:
-            script.revision(3, 0x80)
+    choices = product((None, MEMORY, MARKS, REPLY), (False, True), (
+        None, 'setting', 'mark'), (False, True), (False, True))
+    for short, no_kind, wrong, long, unframed in choices:
+        spoil(script, no_kind, short)
+        script.revision(3, 0x80 if wrong == 'setting' else REVISION[3])
+        script.mark(0, 2 if wrong == 'mark' else RECEIVED)
         message = b'\xF0' + wave(3, kind.longest if long else 20) + b'\xF7'
         script.whole(message[1 if unframed else 0:])
-        mend(script, buffer)
-        script.settings_back()
+        mend(script, short)
+    script.mark(0, RECEIVED)
 
 
 def add_no_sockets(script, numbers):
@@ -230,6 +240,18 @@ def add_wrong_settings(script):
         script.moves_hex('0D 11')
         script.scale(5)
         script.back(13)
+
+
+def add_wrong_marks(script, places, marks):
+    """Marks neither 1 nor 0: 32 among the box's own, not looked at behind."""
+    script.lend(MARKS, MARK_ROOM)
+    for place in places:
+        for mark in marks:
+            script.mark(place, mark)
+            add_calls(script)
+        if place < MARK_COUNT:
+            script.mark(place, RECEIVED)
+    script.lend_back(MARKS)
 
 
 def add_refused(script):
@@ -289,13 +311,14 @@ def add_back_order(script):
     """Every choice of reasons for 32, 30, 17, 19 and 40 at once."""
     # the last one wants an effect, where the kind has any that does
     *_, (controller, rule) = script.kind.table.items()
-    choices = product((False, True), repeat=5)
+    either = False, True
+    choices = product(either, (None, MEMORY), either, either, either)
     for no_kind, short, unknown, unselected, no_value in choices:
         spoil(script, no_kind, short)
         select(script, 6 if unselected else (rule.chosen_by or (0,))[0])
         fill(script, rule.field, 0xFF if no_value else 1)
         script.back(65536 + controller if unknown else controller)
-        mend(script)
+        mend(script, short)
 
 
 def add_scale_order(script):
@@ -330,6 +353,7 @@ def add_all(script):
         add_lengths(script, buffer, lengths_of(buffer))
     add_long_buffers(script, request(kind, ALL))
     add_turned_away(script)
+    add_wrong_marks(script, range(MARK_ROOM), (2, 0x80, 0xFF))
     add_counts(script)
     add_list_order(script)
     add_no_sockets_lent(script, unsound(kind)[::9])

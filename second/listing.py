@@ -4,17 +4,18 @@ python3 second/listing.py stream [KIND]  writes the stream
 python3 second/listing.py lines [KIND]   reads a stream and prints its lines
 
 KIND is pod or bass, and pod where it is not said. The stream gives every
-number that a socket of that box can give, with long dumps, good and damaged,
-with program changes, and with real-time bytes anywhere.
+number that a socket of that box can give, with dumps of each length, good and
+damaged, with program changes, and with real-time bytes anywhere.
 """
 
 import sys
-from itertools import cycle
+from itertools import chain, cycle
 
 from box import END_BYTE, Box
 from controllers import split
 from kinds import ALL, EDIT, PROGRAM, kind_told, others
-from messages import changed, dump, identity, request
+from messages import (changed, data_start, dump, identity, in_each_length,
+                      request)
 from player import rows_of
 from sockets import CHANGES
 
@@ -37,10 +38,13 @@ def dumps(kind):
     one = dump(kind, PROGRAM, halves(kind.size, 3), 0x23)
     edit = dump(kind, EDIT, halves(kind.size, 5))
     every = dump(kind, ALL, halves(kind.edit_start, 7))
-    ask = request(kind, ALL)
-    for good, data in ((one, 9), (edit, 8), (every, 8)):
+    asked = (request(kind, PROGRAM, 0x23), request(kind, EDIT),
+             request(kind, ALL))
+    for good in chain.from_iterable(
+            in_each_length(kind, given) for given in (one, edit, every)):
         # "a bad half byte in program 36 then leaves 35 new ones"
-        yield from (changed(good, -2, 0x10), ask, good, ask)
+        yield from (changed(good, -2, 0x10), *asked, good, *asked)
+        data = data_start(good)
         yield changed(good, data - 1, 1)       # 15
         yield changed(good, data, 0x7F)        # 16
         yield changed(good, 6, 3)              # 12
@@ -48,9 +52,7 @@ def dumps(kind):
             yield changed(good, 4, other.device)  # 11
         yield good[:-2] + END_BYTE             # 13
     yield changed(one, 7, 0x24)                # 14
-    yield request(kind, PROGRAM, 0x23)
     yield request(kind, PROGRAM, 0x24)
-    yield request(kind, EDIT)
 
 
 def moves(kind):

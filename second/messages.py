@@ -40,8 +40,27 @@ def dump(kind, typed, data, *named, version=0):
             + END_BYTE)
 
 
-def dumps(kind, seed, version=0):
-    """Return a dump of each type, each with its request."""
+def data_start(given):
+    """Return the place of a dump's first data byte."""
+    return 9 if given[6] == PROGRAM else 8  # after "pp vv", or "vv"
+
+
+def sized(kind, given, size):
+    """Return a dump with so many first bytes of each of its programs."""
+    # Req 06: "Two customers' units send 142 half bytes a program"
+    start = data_start(given)
+    starts = range(start, len(given) - 1, kind.halves)
+    return (given[:start] + b''.join(given[at:at + 2 * size] for at in starts)
+            + END_BYTE)
+
+
+def in_each_length(kind, given):
+    """Return a dump in each length that it may have, the longest first."""
+    return tuple(sized(kind, given, size) for size in kind.sizes)
+
+
+def long_dumps(kind, seed, version=0):
+    """Return the longest dump of each type, each with its request."""
     one, edit = wave(seed, kind.halves), wave(seed + 1, kind.halves)
     return (
         (dump(kind, PROGRAM, one, 0x11, version=version),
@@ -52,10 +71,23 @@ def dumps(kind, seed, version=0):
     )
 
 
+def dumps(kind, seed, version=0):
+    """Return a dump of each type in each length, each with its request."""
+    return tuple((given, asked)
+                 for longest, asked in long_dumps(kind, seed, version)
+                 for given in in_each_length(kind, longest))
+
+
 def forms(kind, seed):
-    """Return the right messages of the six forms."""
+    """Return the right messages of the six forms, the longest of each."""
     return tuple(chain.from_iterable(
-        (asked, given) for given, asked in dumps(kind, seed)))
+        (asked, given) for given, asked in long_dumps(kind, seed)))
+
+
+def all_forms(kind, seed):
+    """Return the right messages of the six forms, of each length."""
+    return tuple(dict.fromkeys((
+        *forms(kind, seed), *(given for given, _ in dumps(kind, seed)))))
 
 
 def edit_with(kind, places, seed=0):

@@ -3,15 +3,17 @@
 from box import END_BYTE
 from judging import add_forms, show, wrong_settings
 from kinds import EDIT, END, KINDS, START
-from messages import (PAD, changed, edit_with, forms, identity, request,
-                      resized, wave)
+from marks import add_marks
+from messages import (PAD, all_forms, changed, edit_with, forms, identity,
+                      request, resized, wave)
 from player import MESSAGE_ROOM
 from script import Script
 
 
 def add_lengths(script):
     """Every length from one past the right one down to 0."""
-    # why: going down, a shorter message costs three commands
+    # why: going down, a shorter message costs three commands, and a dump
+    # comes to its shorter lengths too
     for message in (identity(0x7F), *forms(script.kind, 0)):
         for length in range(len(message) + 1, -1, -1):
             script.whole(resized(message, length))
@@ -19,7 +21,7 @@ def add_lengths(script):
 
 def add_frames(script):
     """Messages right but for their frame."""
-    for message in (identity(0x7F), *forms(script.kind, 1)):
+    for message in (identity(0x7F), *all_forms(script.kind, 1)):
         script.whole(message[1:])
         for byte in (0x70, 0xF1, END, 0xF8):
             script.whole(changed(message, 0, byte))
@@ -32,7 +34,7 @@ def add_frames(script):
 
 def add_middles(script):
     """A byte above 0x7F inside a message."""
-    for message in (identity(0x7F), *forms(script.kind, 2)):
+    for message in (identity(0x7F), *all_forms(script.kind, 2)):
         for place in (1, len(message) // 2, len(message) - 2):
             for byte in (0x80, START, END, 0xF8):
                 script.whole(changed(message, place, byte))
@@ -83,4 +85,5 @@ def make_whole():
         add_shortest(script)
         add_longest(script)
         add_settings(script)
+        add_marks(script, script.whole)
     return bytes(script.commands)

@@ -11,7 +11,8 @@ from moves import carry_out, in_pairs
 MESSAGE_ROOM = 8192  # "a message buffer of 8,192 bytes"
 MEMORY_ROOM = 3000   # "memory of 3,000 bytes"
 BUFFER_ROOM = 5800   # receive and reply buffers "of 5,800 bytes"
-ROOMS = (MEMORY_ROOM, BUFFER_ROOM, BUFFER_ROOM, BUFFER_ROOM)
+MARK_ROOM = 40       # "marks of 40 bytes"
+ROOMS = (MEMORY_ROOM, BUFFER_ROOM, BUFFER_ROOM, BUFFER_ROOM, MARK_ROOM)
 REFUSED = 65536      # "the value, or 65,536 + the refusal number"
 VALUE = 'value'      # stands for all values among the numbers given
 MOVE = 'n'           # stands for a call's letter where a move is counted
@@ -95,19 +96,21 @@ class Player:
     def __init__(self):
         self.message = Message()
         # as much is lent at first as a POD wants, and the kind's number is 0
-        self.box = Box(POD, MEMORY_ROOM, BUFFER_ROOM)
-        # "of memory, of the reply buffer, of receive buffers 0 and 1"
+        self.box = Box(POD, MEMORY_ROOM, BUFFER_ROOM, MARK_ROOM)
+        # "of memory, of the marks, of the reply buffer, of receive buffers 0
+        # and 1"
         self.digests = [Digest(buffer) for buffer in (
-            self.box.memory, self.box.reply, *self.box.receive)]
+            self.box.memory, self.box.marks, self.box.reply,
+            *self.box.receive)]
         self.controller = 0
         self.calls = 0
         # how many calls gave (the kind's number, letter, number), and how
         # many moves (the kind's number, MOVE, row)
         self.given = Counter()
-        self.changing = {'Y': self.poke, 'C': self.set_channel,
-                         'R': self.set_revision, 'Z': self.lend,
-                         'E': self.set_receiver, 'N': self.set_controller,
-                         'T': self.set_kind}
+        self.changing = {'Y': self.poke, 'A': self.set_mark,
+                         'C': self.set_channel, 'R': self.set_revision,
+                         'Z': self.lend, 'E': self.set_receiver,
+                         'N': self.set_controller, 'T': self.set_kind}
         self.calling = {'W': self.whole, 'S': self.take, 'M': self.feed,
                         'K': self.scale, 'D': self.back, 'V': self.move}
 
@@ -126,6 +129,10 @@ class Player:
         """Do Y: "memory byte n % 3,000 is v"."""
         self.box.memory[(a + 256 * b) % MEMORY_ROOM] = v
 
+    def set_mark(self, a, b, v):
+        """Do A: "mark byte n % 40 is v"."""
+        self.box.marks[(a + 256 * b) % MARK_ROOM] = v
+
     def set_channel(self, a, b, _):
         """Do C: "channel is a, omni is b"."""
         self.box.settings.channel, self.box.settings.omni = a, b
@@ -136,7 +143,7 @@ class Player:
 
     def lend(self, a, b, v):
         """Do Z: "the first n bytes are lent", "at most its own length"."""
-        self.box.lent[v % 4] = min(a + 256 * b, ROOMS[v % 4])
+        self.box.lent[v % 5] = min(a + 256 * b, ROOMS[v % 5])
 
     def set_receiver(self, a, b, v):
         """Do E: "part a % 8 of the receiver of socket b % 2 is v"."""
@@ -228,7 +235,8 @@ class Player:
 
     def end(self):
         """Return the lines "at the end of the script"."""
-        return tabbed('m', self.box.memory.hex()), tabbed('c', self.calls)
+        return (tabbed('m', self.box.memory.hex()),
+                tabbed('k', self.box.marks.hex()), tabbed('c', self.calls))
 
 
 def as_number(receiver):

@@ -6,7 +6,7 @@ as a script's message holds it: a controller, its value, and so on.
 
 from itertools import chain, product
 
-from box import RECEIVE, REPLY
+from box import MEMORY, RECEIVE, REPLY
 from controllers import SELECTOR
 from kinds import ALL, EDIT, KINDS
 from messages import dump, edit_with, noise, request, wave, waves
@@ -54,7 +54,8 @@ def add_counts(script):
 
 def add_list_order(script):
     """Every choice of reasons for 33, 34, 32, 30 and 32 at once."""
-    choices = product((False, True), repeat=5)
+    either = False, True
+    choices = product(either, either, either, (None, MEMORY), either)
     for many, no_room, no_kind, short, wrong_setting in choices:
         count = MOST + 1 if many else MOST
         script.lend(REPLY, count - 1 if no_room else count)
@@ -62,7 +63,7 @@ def add_list_order(script):
         if wrong_setting:
             script.settings(16, 0)
         script.moves(wave(3, 2 * count))
-        mend(script)
+        mend(script, short)
         script.settings(0, 0)
     script.lend_back(REPLY)
 

@@ -74,6 +74,10 @@ class Script:
         """Set a byte of memory."""
         self.add('Y', place % 256, place // 256, byte)
 
+    def mark(self, place, mark):
+        """Set a mark: a program's, the edit buffer's or one behind."""
+        self.add('A', place, 0, mark)
+
     def lend(self, buffer, length):
         """Lend so many bytes of a buffer from now on."""
         self.add('Z', length % 256, length // 256, buffer)

@@ -6,8 +6,10 @@ from itertools import zip_longest
 from box import END_BYTE
 from judging import add_forms, show
 from kinds import ALL, EDIT, KINDS, PROGRAM, START
-from messages import (PAD, changed, dump, dumps, edit_with, forms, identity,
-                      inserted, noise, request, resized, wave, waves)
+from marks import PLACES, add_in_turn, add_one_clear, add_unmoved, asking
+from messages import (PAD, all_forms, changed, dump, dumps, edit_with,
+                      identity, inserted, noise, request, resized, wave,
+                      waves)
 from player import MESSAGE_ROOM
 from scenes import add_scenes, listed, shared_moves
 from script import Script
@@ -219,7 +221,7 @@ def add_refusals(script, socket):
     """The forms of both scripts, as bytes on a socket."""
     hand = partial(script.feed, socket)
     add_forms(script, hand, 970)
-    for message in forms(script.kind, 9):
+    for message in all_forms(script.kind, 9):
         for length in (len(message) - 1, len(message) + 1):
             hand(resized(message, length))
 
@@ -295,6 +297,13 @@ def add_panel(script):
     script.send_hex(1, '0D 64 F7')
 
 
+def add_lengths(script, socket):
+    """Dumps of each length, and marks: less than the panel's."""
+    hand = partial(script.feed, socket)
+    add_in_turn(script.kind, hand, asking(script.kind)[:-1])
+    add_one_clear(script, hand, PLACES[-2:])
+
+
 def add_every_change(script, socket):
     """Every program change there is."""
     script.feed(socket, bytes((0xC0, *range(128))))
@@ -312,6 +321,7 @@ def add_all(script):
         add_every_change(script, socket)
         add_shared(script, socket, (0, 21, 64, 127))
         add_raised(script, socket)
+        add_unmoved(script, socket)
     add_recalled(script)
     add_cut_dumps(script, 0)
     add_too_long(script, 1)
@@ -323,6 +333,7 @@ def add_all(script):
     add_pieces(script)
     add_panel(script)
     add_scenes(script)
+    add_lengths(script, 1)
     add_noise(script)
 
 

@@ -2,11 +2,12 @@
 
 A plan has a kind of box, a stream of bytes for each socket, the panel's
 messages and the lighting desk's lists of moves. It is played five times, from
-the same memory and under the same settings: mixed in an order of finishing,
-mixed otherwise in the same order, mixed in another order, and for each of the
-two orders one message at a time. Both receivers start fresh, no call is
-turned away for what it lends or is set to, every call lends its own socket's
-receiver and buffer, and the settings stay, the kind too: demand 3's premises.
+the same memory and marks and under the same settings: mixed in an order of
+finishing, mixed otherwise in the same order, mixed in another order, and for
+each of the two orders one message at a time. Both receivers start fresh, no
+call is turned away for what it lends or is set to, every call lends its own
+socket's receiver and buffer, and the settings stay, the kind too: demand 3's
+premises.
 
 A call is named by its source and its place there: the place of a byte in
 its socket's stream, of a message among the panel's or of a list among the
@@ -18,16 +19,18 @@ list's number is those noted for its moves. Compared are:
 
 any two runs (`Run.own`): "each socket's finished messages depend on that
 socket's bytes alone". For each socket, the same places have a number, and
-each has the same number, reply length, receive buffer and receiver. 3 and 19
+each has the same number, receive buffer and receiver, and a reply with the
+same first bytes: it is of the same form, and names the same program. 3 and 19
 count as one, for which of them a finished controller message gets depends
-on byte 46, and so on what the others finished before it. (A program change
-that a Bass box takes is 1 in any run: what it copies depends on the others,
-and its number does not.)
+on byte 46, and so on what the others finished before it; which length a
+reply has depends in the same way on marks. (A program change that a Bass box
+takes is 1 in any run: what it copies depends on the others, and its number
+does not.)
 
 two runs in the same order of finishing (`Run.all`): nothing but that order
 matters. Each place has the same number, reply length, reply, receive buffer
-and receiver, each finishing call leaves the same memory and reply buffer,
-and the memory at the end is the same, byte for byte.
+and receiver, each finishing call leaves the same memory, marks and reply
+buffer, and memory and marks at the end are the same, byte for byte.
 
 a run and one message at a time (`Run.effects`): "The programs, the edit
 buffer and the replies sent are exactly those of carrying out the finished
@@ -37,7 +40,8 @@ its bytes, a program change too. A list's moves are "sent one by one on our
 channel"; one above 127, which no wire carries, is a list for itself. What a
 socket finishes is found by box.py from that socket's bytes alone. Each
 finishing call has the same number, reply length and reply and leaves the same
-memory, a list what its last move leaves. "Unfinished and cut messages have no
+memory and marks (Req 06: "Demands 2 and 3 read both lengths and the marks"),
+a list what its last move leaves. "Unfinished and cut messages have no
 effect": they are left out there, and so are an empty list and one of too
 many moves, which is refused with 33.
 """
@@ -46,10 +50,10 @@ from typing import NamedTuple, Union
 
 from box import CONTROLLER, CUT, END_BYTE, TOO_LONG, Receiver
 from chance import (REAL_TIME, asking, fragment, over_list, some_list,
-                    storing)
+                    storing, storing_all)
 from controllers import APPLIED, NOT_SELECTED, TOP
-from kinds import ALL, START
-from messages import PAD, dump, edit_with, waves
+from kinds import MARK_COUNT, START
+from messages import PAD, edit_with, in_each_length
 from moves import MOST, TOO_MANY, in_pairs
 from script import Script
 
@@ -57,6 +61,9 @@ SOCKETS, PANEL, DESK = (0, 1), 2, 3
 # Numbers of calls that finish nothing: an empty list has none, and one that
 # is refused has that of its refusal.
 NOTHING = (CUT, (), (TOO_MANY,))
+# Of a reply's line, the letter, the tab and the bytes before the data: up to
+# "pp", or to "vv" where no program is named.
+FRONT = len('r\t') + 2 * 8
 
 
 class Answer(NamedTuple):
@@ -65,6 +72,7 @@ class Answer(NamedTuple):
     number: Union[int, tuple]  # of a list, those of its moves
     length: int
     memory: str         # digests
+    marks: str
     reply_buffer: str
     receive: str        # of its own socket; empty where it has none
     receiver: str
@@ -115,8 +123,11 @@ class Plan:
     def __init__(self, kind, chance):
         self.kind = kind
         self.settings = chance.choice(((0, 0), (0, 1), (5, 0)))
-        self.memory = (dump(kind, ALL, waves(kind, chance.getrandbits(32))),
-                       edit_with(kind, {46: chance.randrange(16)}))
+        edit = edit_with(kind, {46: chance.randrange(16)})
+        self.memory = (storing_all(kind, chance),
+                       chance.choice(in_each_length(kind, edit)))
+        self.marks = {chance.randrange(MARK_COUNT): chance.randrange(2)
+                      for _ in range(chance.randrange(9))}
         panel = [chance.choice((asking, storing))(kind, chance)
                  for _ in range(chance.randrange(8))]
         desk = make_desk(kind, chance)
@@ -160,10 +171,12 @@ class Plan:
         return [(source, next(places[source])) for source in order]
 
     def begin(self):
-        """Return a script that sets kind and settings and fills memory."""
+        """Return a script that sets all and fills memory and marks."""
         script = Script(self.kind)
         for message in self.memory:
             script.whole(message)
+        for place, mark in self.marks.items():
+            script.mark(place, mark)
         script.settings(*self.settings)
         return script
 
@@ -215,7 +228,7 @@ class Run:
 
     def __init__(self, named, lines):
         self.answers = {}
-        self.memory = lines[-2]  # at the end
+        self.held = lines[-3:-1]  # memory and marks at the end
         for line, following in zip(lines, lines[1:]):
             letter, at, *fields = line.split('\t')
             if letter in ('S', 'W', 'V') and named[int(at)] is not None:
@@ -234,33 +247,33 @@ class Run:
         return {
             call: (APPLIED if answer.number == NOT_SELECTED
                    else answer.number,
-                   answer.length, answer.receive, answer.receiver)
+                   answer.reply[:FRONT], answer.receive, answer.receiver)
             for call, answer in self.answers.items() if call[0] in SOCKETS}
 
     def all(self):
         """Return of every call what the order of finishing decides."""
         # a cut's place among what the others finish is not in that order
         calls = {call: answer if answer.number != CUT
-                 else answer._replace(memory='', reply_buffer='')
+                 else answer._replace(memory='', marks='', reply_buffer='')
                  for call, answer in self.answers.items()}
-        return {**calls, 'memory': self.memory}
+        return {**calls, 'held': self.held}
 
     def effects(self):
         """Return of every finishing call what it did."""
         calls = {call: (answer.number, answer.length, answer.reply,
-                        answer.memory)
+                        answer.memory, answer.marks)
                  for call, answer in self.answers.items()
                  if answer.number not in NOTHING}
-        return {**calls, 'memory': self.memory}
+        return {**calls, 'held': self.held}
 
 
 def read_answer(source, fields, following):
     """Return the answer of a call's line and of the line behind it."""
-    number, length, memory, reply_buffer, *sockets = fields
+    number, length, memory, marks, reply_buffer, *sockets = fields
     own = sockets[source::2] if source in SOCKETS else ('', '')
     reply = following if following.startswith('r') else ''
     return Answer(read_number(source, number, following), int(length),
-                  memory, reply_buffer, *own, reply)
+                  memory, marks, reply_buffer, *own, reply)
 
 
 def read_number(source, number, following):

@@ -4,11 +4,12 @@ A call is judged by the kind that it brings itself, whatever the ones before
 it brought; a number that is no kind's is 32, "just before 30".
 """
 
-from itertools import cycle, permutations
+from itertools import chain, cycle, permutations
 
 from box import MEMORY
-from kinds import ALL, EDIT, KINDS, others
-from messages import PAD, dump, dumps, identity, request, waves
+from kinds import ALL, EDIT, KINDS, PROGRAM, others
+from messages import (PAD, changed, dump, dumps, identity, long_dumps,
+                      request, waves)
 from player import ROOMS
 
 # Numbers that are no kind's; some would be one's if they were cut.
@@ -16,18 +17,19 @@ NO_KINDS = (2, 3, 0xFF, 0x100, 0x101, 0xFFFF, 1 << 24, (1 << 24) + 1,
             0x80000000, 0xFF000001, 0xFF00FFFF)
 
 
-def spoil(script, no_kind, short, buffer=MEMORY):
-    """Bring no kind's number, lend a buffer a byte short, where it is so."""
+def spoil(script, no_kind, short):
+    """Bring no kind's number if so; lend a buffer, or None, a byte short."""
     if no_kind:
         script.bring(NO_KINDS[0])
-    if short:
-        script.lend(buffer, script.kind.least[buffer] - 1)
+    if short is not None:
+        script.lend(short, script.kind.least[short] - 1)
 
 
-def mend(script, buffer=MEMORY):
+def mend(script, short):
     """Bring and lend again what the box wants."""
     script.bring_back()
-    script.lend_back(buffer)
+    if short is not None:
+        script.lend_back(short)
 
 
 def add_calls(script):
@@ -98,7 +100,7 @@ def add_switched_dumps(script, kind, other):
         script.whole(identity(0x7F))
 
 
-def add_switched_mark(script, kind, other):
+def add_switched_over(script, kind, other):
     """Marked too long with as much stored as one kind can: not the other."""
     script.feed(0, dump(kind, ALL, waves(kind, 15))[:-1] + PAD)
     script.bring(other.number)
@@ -106,6 +108,20 @@ def add_switched_mark(script, kind, other):
     script.receiver(0)
     script.bring(kind.number)
     script.feed(0, dump(kind, ALL, waves(kind, 15)))
+
+
+def add_switched_marks(script, kind, other):
+    """Dumps of one kind, and the other's before what they left is shown."""
+    between = [*chain.from_iterable(long_dumps(other, 18)[:2])]
+    for given, _ in dumps(kind, 18):
+        script.bring(kind.number)
+        script.whole(given)
+        script.bring(other.number)
+        for message in (changed(given, 4, other.device), *between):
+            script.whole(message)
+        script.bring(kind.number)
+        for asked in (request(kind, PROGRAM, 0x11), request(kind, EDIT)):
+            script.whole(asked)
 
 
 def add_switched(script):
@@ -116,5 +132,6 @@ def add_switched(script):
     add_switched_moves(script)
     for kind, other in permutations(KINDS, 2):
         add_switched_dumps(script, kind, other)
-        add_switched_mark(script, kind, other)
+        add_switched_over(script, kind, other)
+        add_switched_marks(script, kind, other)
     script.become(script.kind)

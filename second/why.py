@@ -10,7 +10,7 @@ Req 02: "The reason must be true: that check fails on these bytes, every
 earlier one holds, and a fresh box set as the listing program's, handed the
 message whole, returns that number."
 
-Checks and forms are read here from document 01, with the kind's size and
+Checks and forms are read here from document 01, with the kind's sizes and
 device byte, and not by box.py, which must give the same number for every
 case. The cases (bounced.py) must give every line of the table in
 docs/DECISIONS.md.
@@ -46,10 +46,12 @@ class Form(NamedTuple):
     number: int    # 2: "reply written", 1: "dump stored"
     done: str      # what was done, the program left open
 
-    def length(self, kind):
-        """Return its "Whole length" for a kind of box."""
-        count = len(self.fields.split())
-        return FORM_START + count + 2 * kind.size * self.programs + 1
+    def lengths(self, kind):
+        """Return each "Whole length" for a kind of box, the longest first."""
+        bare = FORM_START + len(self.fields.split()) + 1
+        # a request has no data, whatever the size of a program
+        return tuple(dict.fromkeys(bare + 2 * size * self.programs
+                                   for size in kind.sizes))
 
 
 FORMS = (
@@ -65,7 +67,7 @@ BY_START = {bytes.fromhex(form.fields[:5]): form for form in FORMS}
 
 def longest(kind):
     """Return the length of the longest message."""
-    return max(form.length(kind) for form in FORMS)
+    return max(max(form.lengths(kind)) for form in FORMS)
 
 
 class Reading:
@@ -105,9 +107,9 @@ class Reading:
         return bool(self.identity or self.form)
 
     def has_length(self):
-        """Check 13: "wrong length", by the form's "Whole length"."""
+        """Check 13: Req 06: "13 is for a length that is neither"."""
         return (self.form is None
-                or len(self.message) == self.form.length(self.kind))
+                or len(self.message) in self.form.lengths(self.kind))
 
     def has_program(self):
         """Check 14: "program above 0x23"."""
@@ -147,7 +149,7 @@ CHECKS = (
           'with nothing above 0x7F between'),
     Check(12, 'opcode and type', Reading.has_form,
           'opcode 00 or 01, then type 00, 01 or 02'),
-    Check(13, 'length', Reading.has_length, '{length} bytes'),
+    Check(13, 'length', Reading.has_length, '{lengths} bytes'),
     Check(14, 'program', Reading.has_program, 'at most 0x23 (9D)'),
     Check(15, 'version', Reading.has_version, '0x00'),
     Check(16, 'half bytes', Reading.has_halves, 'at most 0x0F'),
@@ -173,7 +175,7 @@ def reason(kind, message):
         if not check.holds(reading):
             return check.number, check.name, check.expected.format(
                 longest=longest(kind), device=kind.device,
-                length=form and form.length(kind))
+                lengths=form and ' or '.join(map(str, form.lengths(kind))))
     if form is None:
         return 2, 'identity answered'
     programs = map(shown, reading.field('pp'))
@@ -233,7 +235,8 @@ def hold_against_box(kind, message):
     if number in (1, 2):
         assert told == seen_in(box, length), f'{told}: {seen_in(box, length)}'
     else:
-        assert not (length or any(box.memory)), f'{number}, and not refused'
+        kept = not any(box.memory) and all(box.marks)
+        assert kept and not length, f'{number}, and not refused'
 
 
 def failing_pairs(kind, message):
