@@ -11,6 +11,9 @@ use libc::STDOUT_FILENO;
 use lines::Lines;
 use podbox::Buffer;
 use podbox::Memory;
+use programs::MARKS;
+
+type Marks = [u8; MARKS];
 
 // Where the listing stands: the socket's receiver, and the place of the next byte.
 struct Stand {
@@ -55,9 +58,17 @@ fn list(kind: u32) {
     io::write_all(STDOUT_FILENO, b"at\tnumber\treply\n");
     let mut part = io::large_buffer();
     let mut memory: Memory = [0; podbox::MEMORY];
+    let mut marks: Marks = [1; MARKS];
     let mut receive: Buffer = [0; podbox::LONGEST];
     let mut reply: Buffer = [0; podbox::LONGEST];
-    list_all(kind, &mut part, &mut memory, &mut receive, &mut reply);
+    list_all(
+        kind,
+        &mut part,
+        &mut memory,
+        &mut marks,
+        &mut receive,
+        &mut reply,
+    );
 }
 
 // Part after part, to the end of the input, or to where it cannot be read, which is said on standard error. A proved loop
@@ -66,6 +77,7 @@ fn list_all(
     kind: u32,
     part: &mut [u8],
     memory: &mut Memory,
+    marks: &mut Marks,
     receive: &mut Buffer,
     reply: &mut Buffer,
 ) {
@@ -83,7 +95,7 @@ fn list_all(
         if n == 0 {
             return;
         }
-        stand = list_part(stand, &part[..n], kind, memory, receive, reply);
+        stand = list_part(stand, &part[..n], kind, memory, marks, receive, reply);
     }
 }
 
@@ -93,6 +105,7 @@ fn list_part(
     part: &[u8],
     kind: u32,
     memory: &mut Memory,
+    marks: &mut Marks,
     receive: &mut Buffer,
     reply: &mut Buffer,
 ) -> Stand {
@@ -108,6 +121,7 @@ fn list_part(
             kind,
             podbox::FRESH_SETTINGS,
             memory,
+            marks,
             receive,
             reply,
         );

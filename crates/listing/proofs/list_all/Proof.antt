@@ -7,10 +7,10 @@ use Rattle.listing.proofs.list_all.Statement.{statement}
 use Rattle.listing.proofs.list_all.Tie as tie
 
 abbrev Inv-loop : tie.InvT-loop
-Inv-loop kind part₀ memory₀ receive₀ reply₀ stand₀ receiver₀ counter₀ part memory receive reply stand counter = length part ≡ length part₀
+Inv-loop kind part₀ memory₀ marks₀ receive₀ reply₀ stand₀ receiver₀ counter₀ part memory marks receive reply stand counter = length part ≡ length part₀
 
 abbrev μ-loop : tie.MeasureT-loop
-μ-loop kind part₀ memory₀ receive₀ reply₀ stand₀ receiver₀ counter₀ part memory receive reply stand counter = 18446744073709551615 - counter
+μ-loop kind part₀ memory₀ marks₀ receive₀ reply₀ stand₀ receiver₀ counter₀ part memory marks receive reply stand counter = 18446744073709551615 - counter
 
 pub list-all-spec : {M : Type 1} → statement M
 list-all-spec =
