@@ -4,10 +4,14 @@ use crate::script::Command;
 
 pub(crate) const MEMORY: usize = 3000;
 
+pub(crate) const MARKS: usize = 40;
+
 // Of a receive buffer and of the reply buffer.
 pub(crate) const SIZE: usize = 5800;
 
 pub(crate) type Memory = [u8; MEMORY];
+
+pub(crate) type Marks = [u8; MARKS];
 
 pub(crate) type Buffer = [u8; SIZE];
 
@@ -17,6 +21,7 @@ pub(crate) struct Lent {
     pub(crate) receive0: u16,
     pub(crate) receive1: u16,
     pub(crate) reply: u16,
+    pub(crate) marks: u16,
 }
 
 // As much as a call of a POD needs: what second/REPLAY.md says is lent at first.
@@ -25,13 +30,17 @@ pub(crate) const NEEDED: Lent = Lent {
     receive0: 5193,
     receive1: 5193,
     reply: 5193,
+    marks: 37,
 };
 
-// What a command writes to memory; any other command leaves it.
-pub(crate) fn change(memory: &mut Memory, command: Command) {
-    if command.op == b'Y' {
-        let place = script::number(command) as usize;
-        memory[place % MEMORY] = command.v;
+// What a command writes to memory or to the marks; any other command leaves both.
+pub(crate) fn change(memory: &mut Memory, marks: &mut Marks, command: Command) {
+    let n = script::number(command) as usize;
+    let op = command.op;
+    match op {
+        b'Y' => memory[n % MEMORY] = command.v,
+        b'A' => marks[n % MARKS] = command.v,
+        _ => {}
     }
 }
 
@@ -39,12 +48,13 @@ pub(crate) fn change(memory: &mut Memory, command: Command) {
 pub(crate) fn lent_by(before: Lent, command: Command) -> Lent {
     let mut lent = before;
     let count = script::number(command);
-    let buffer = command.v % 4;
+    let buffer = command.v % 5;
     match buffer {
         0 => lent.memory = count,
         1 => lent.receive0 = count,
         2 => lent.receive1 = count,
-        _ => lent.reply = count,
+        3 => lent.reply = count,
+        _ => lent.marks = count,
     }
     lent
 }

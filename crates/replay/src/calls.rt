@@ -1,6 +1,7 @@
 // The calls of the box and of the controllers, and the line of each answer.
 use crate::buffers;
 use crate::buffers::Buffer;
+use crate::buffers::Marks;
 use crate::buffers::Memory;
 use crate::desk;
 use crate::desk::Desk;
@@ -13,20 +14,23 @@ pub(crate) fn whole(
     desk: Desk,
     message: &[u8],
     memory: &mut [u8],
+    marks: &mut [u8],
     receive0: &[u8],
     receive1: &[u8],
     reply: &mut [u8],
 ) -> Desk {
     let memory_end = io::count(desk.lent.memory as isize, memory);
+    let marks_end = io::count(desk.lent.marks as isize, marks);
     let reply_end = io::count(desk.lent.reply as isize, reply);
     let answer = podbox::whole_message(
         message,
         desk.kind,
         desk.settings,
         &mut memory[..memory_end],
+        &mut marks[..marks_end],
         &mut reply[..reply_end],
     );
-    print::answered(b'W', desk, answer, memory, receive0, receive1, reply);
+    print::answered(b'W', desk, answer, memory, marks, receive0, receive1, reply);
     desk::counted(desk)
 }
 
@@ -36,13 +40,23 @@ pub(crate) fn on_socket(
     socket: u32,
     bytes: &[u8],
     memory: &mut Memory,
+    marks: &mut Marks,
     receive0: &mut Buffer,
     receive1: &mut Buffer,
     reply: &mut Buffer,
 ) -> Desk {
     let mut desk = before;
     for i in 0..bytes.len() {
-        desk = byte_on(desk, socket, bytes[i], memory, receive0, receive1, reply);
+        desk = byte_on(
+            desk,
+            socket,
+            bytes[i],
+            memory,
+            marks,
+            receive0,
+            receive1,
+            reply,
+        );
     }
     desk
 }
@@ -53,15 +67,25 @@ fn byte_on(
     socket: u32,
     byte: u8,
     memory: &mut Memory,
+    marks: &mut Marks,
     receive0: &mut Buffer,
     receive1: &mut Buffer,
     reply: &mut Buffer,
 ) -> Desk {
-    let took = taken(before, socket, byte, memory, receive0, receive1, reply);
+    let took = taken(
+        before,
+        socket,
+        byte,
+        memory,
+        marks,
+        receive0,
+        receive1,
+        reply,
+    );
     let desk = desk::with_receiver(before, socket, took.receiver);
     let answer = took.answer;
     if sysex::answer_number(answer) != 0 {
-        print::answered(b'S', desk, answer, memory, receive0, receive1, reply);
+        print::answered(b'S', desk, answer, memory, marks, receive0, receive1, reply);
     }
     desk::counted(desk)
 }
@@ -72,15 +96,34 @@ fn taken(
     socket: u32,
     byte: u8,
     memory: &mut Memory,
+    marks: &mut Marks,
     receive0: &mut Buffer,
     receive1: &mut Buffer,
     reply: &mut Buffer,
 ) -> Took {
     let lent = desk.lent;
     if socket == 0 {
-        return take(desk, socket, byte, memory, lent.receive0, receive0, reply);
+        return take(
+            desk,
+            socket,
+            byte,
+            memory,
+            marks,
+            lent.receive0,
+            receive0,
+            reply,
+        );
     }
-    take(desk, socket, byte, memory, lent.receive1, receive1, reply)
+    take(
+        desk,
+        socket,
+        byte,
+        memory,
+        marks,
+        lent.receive1,
+        receive1,
+        reply,
+    )
 }
 
 // The part of each buffer that the desk says is lent to the call.
@@ -89,11 +132,13 @@ fn take(
     socket: u32,
     byte: u8,
     memory: &mut [u8],
+    marks: &mut [u8],
     lent: u16,
     receive: &mut [u8],
     reply: &mut [u8],
 ) -> Took {
     let memory_end = io::count(desk.lent.memory as isize, memory);
+    let marks_end = io::count(desk.lent.marks as isize, marks);
     let receive_end = io::count(lent as isize, receive);
     let reply_end = io::count(desk.lent.reply as isize, reply);
     podbox::take_byte(
@@ -103,6 +148,7 @@ fn take(
         desk.kind,
         desk.settings,
         &mut memory[..memory_end],
+        &mut marks[..marks_end],
         &mut receive[..receive_end],
         &mut reply[..reply_end],
     )
@@ -114,6 +160,7 @@ pub(crate) fn moves(
     desk: Desk,
     message: &[u8],
     memory: &mut Memory,
+    marks: &[u8],
     receive0: &[u8],
     receive1: &[u8],
     reply: &mut Buffer,
@@ -122,7 +169,7 @@ pub(crate) fn moves(
     if let Answer::Taken = answer {
         make_moves(desk, message, memory, reply);
     }
-    print::listed(desk, answer, memory, receive0, receive1, reply);
+    print::listed(desk, answer, memory, marks, receive0, receive1, reply);
     desk::counted(desk)
 }
 

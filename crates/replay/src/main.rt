@@ -8,6 +8,7 @@ mod receiver;
 mod script;
 
 use buffers::Buffer;
+use buffers::Marks;
 use buffers::Memory;
 use desk::Desk;
 use message::Message;
@@ -17,17 +18,19 @@ use script::Next;
 fn main() {
     let mut message: Message = [0; message::SIZE];
     let mut memory: Memory = [0; buffers::MEMORY];
+    let mut marks: Marks = [1; buffers::MARKS];
     let mut receive0: Buffer = [0; buffers::SIZE];
     let mut receive1: Buffer = [0; buffers::SIZE];
     let mut reply: Buffer = [0; buffers::SIZE];
     let desk = replay(
         &mut message,
         &mut memory,
+        &mut marks,
         &mut receive0,
         &mut receive1,
         &mut reply,
     );
-    print::end(desk, &memory);
+    print::end(desk, &memory, &marks);
 }
 
 // Command after command, to the end of the script. A proved loop has to end, and nothing says that an input does: so its
@@ -35,6 +38,7 @@ fn main() {
 fn replay(
     message: &mut Message,
     memory: &mut Memory,
+    marks: &mut Marks,
     receive0: &mut Buffer,
     receive1: &mut Buffer,
     reply: &mut Buffer,
@@ -44,25 +48,44 @@ fn replay(
         let Next::Do(command) = script::read() else {
             return desk;
         };
-        desk = run(desk, command, message, memory, receive0, receive1, reply);
+        desk = run(
+            desk,
+            command,
+            message,
+            memory,
+            marks,
+            receive0,
+            receive1,
+            reply,
+        );
     }
     desk
 }
 
-// A command changes the message, memory or the desk, or it is a call, or it is none.
+// A command changes the message, memory, the marks or the desk, or it is a call, or it is none.
 fn run(
     before: Desk,
     command: Command,
     message: &mut Message,
     memory: &mut Memory,
+    marks: &mut Marks,
     receive0: &mut Buffer,
     receive1: &mut Buffer,
     reply: &mut Buffer,
 ) -> Desk {
     message::change(message, before.length, command);
-    buffers::change(memory, command);
+    buffers::change(memory, marks, command);
     let desk = desk::changed(before, command);
-    called(desk, command, message, memory, receive0, receive1, reply)
+    called(
+        desk,
+        command,
+        message,
+        memory,
+        marks,
+        receive0,
+        receive1,
+        reply,
+    )
 }
 
 // The desk after a command that is a call; any other leaves it.
@@ -71,20 +94,21 @@ fn called(
     command: Command,
     message: &[u8],
     memory: &mut Memory,
+    marks: &mut Marks,
     receive0: &mut Buffer,
     receive1: &mut Buffer,
     reply: &mut Buffer,
 ) -> Desk {
     let end = io::count(desk.length as isize, message);
-    let whole = &message[..end];
-    let byte = [command.v];
+    let all = &message[..end];
+    let one = [command.v];
     let socket = script::socket(command);
     let op = command.op;
     match op {
-        b'W' => calls::whole(desk, whole, memory, receive0, receive1, reply),
-        b'S' => calls::on_socket(desk, socket, &byte, memory, receive0, receive1, reply),
-        b'M' => calls::on_socket(desk, socket, whole, memory, receive0, receive1, reply),
-        b'V' => calls::moves(desk, whole, memory, receive0, receive1, reply),
+        b'W' => calls::whole(desk, all, memory, marks, receive0, receive1, reply),
+        b'S' => calls::on_socket(desk, socket, &one, memory, marks, receive0, receive1, reply),
+        b'M' => calls::on_socket(desk, socket, all, memory, marks, receive0, receive1, reply),
+        b'V' => calls::moves(desk, all, memory, marks, receive0, receive1, reply),
         b'K' => calls::scale(desk, script::wide(command)),
         b'D' => calls::show_back(desk, memory),
         _ => desk,

@@ -1,5 +1,6 @@
 // The lines: one for an answer, and those at the end.
 use crate::buffers;
+use crate::buffers::Marks;
 use crate::buffers::Memory;
 use crate::desk::Desk;
 use crate::receiver;
@@ -19,6 +20,7 @@ pub(crate) fn answered(
     desk: Desk,
     answer: Answer,
     memory: &[u8],
+    marks: &[u8],
     receive0: &[u8],
     receive1: &[u8],
     reply: &[u8],
@@ -28,6 +30,7 @@ pub(crate) fn answered(
     field(sysex::answer_number(answer) as u64);
     field(sysex::answer_length(answer) as u64);
     field(digest(memory));
+    field(digest(marks));
     field(digest(reply));
     field(digest(receive0));
     field(digest(receive1));
@@ -45,11 +48,12 @@ pub(crate) fn listed(
     desk: Desk,
     answer: Answer,
     memory: &[u8],
+    marks: &[u8],
     receive0: &[u8],
     receive1: &[u8],
     reply: &[u8],
 ) {
-    answered(b'V', desk, answer, memory, receive0, receive1, reply);
+    answered(b'V', desk, answer, memory, marks, receive0, receive1, reply);
     if let Answer::Taken = answer {
         hex(b'n', reply, desk.length / 2);
     }
@@ -64,8 +68,9 @@ pub(crate) fn value(letter: u8, desk: Desk, value: u32) {
 }
 
 // The lines at the end of the script.
-pub(crate) fn end(desk: Desk, memory: &Memory) {
+pub(crate) fn end(desk: Desk, memory: &Memory, marks: &Marks) {
     hex(b'm', memory, buffers::MEMORY as u16);
+    hex(b'k', marks, buffers::MARKS as u16);
     io::write_all(STDOUT_FILENO, b"c");
     field(desk.calls);
     io::write_all(STDOUT_FILENO, b"\n");

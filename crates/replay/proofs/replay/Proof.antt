@@ -5,10 +5,10 @@ use Rattle.replay.proofs.replay.Statement.{statement}
 use Rattle.replay.proofs.replay.Tie as tie
 
 abbrev Inv-loop : tie.InvT-loop
-Inv-loop message₀ memory₀ receive0₀ receive1₀ reply₀ desk₀ counter₀ message memory receive0 receive1 reply desk counter = Unit {0}
+Inv-loop message₀ memory₀ marks₀ receive0₀ receive1₀ reply₀ desk₀ counter₀ message memory marks receive0 receive1 reply desk counter = Unit {0}
 
 abbrev μ-loop : tie.MeasureT-loop
-μ-loop message₀ memory₀ receive0₀ receive1₀ reply₀ desk₀ counter₀ message memory receive0 receive1 reply desk counter = 18446744073709551615 - counter
+μ-loop message₀ memory₀ marks₀ receive0₀ receive1₀ reply₀ desk₀ counter₀ message memory marks receive0 receive1 reply desk counter = 18446744073709551615 - counter
 
 pub replay-spec : {M : Type 1} → statement M
 replay-spec =
