@@ -39,9 +39,9 @@ fn failed(check: Check) {
             text(b" .. F7, with nothing above 0x7F between");
         }
         Check::OpcodeAndType => text(b"opcode and type\topcode 00 or 01, then type 00, 01 or 02"),
-        Check::Length(right) => {
+        Check::Length(long, short) => {
             text(b"length\t");
-            bytes(right);
+            lengths(long, short);
         }
         Check::Program(highest) => {
             text(b"program\t");
@@ -77,6 +77,15 @@ fn number(n: u16) {
 fn bytes(count: u16) {
     number(count);
     text(b" bytes");
+}
+
+// Of a form with one length both are the same, and it is told once.
+fn lengths(long: u16, short: u16) {
+    if short != long {
+        number(long);
+        text(b" or ");
+    }
+    bytes(short);
 }
 
 fn at_most(byte: u8) {
