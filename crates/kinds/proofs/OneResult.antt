@@ -5,7 +5,7 @@ use mathlib.Core.List.{List}
 use mathlib.Core.Path.{_≡_}
 use Rattle.ground.proofs.OneResult.{one}
 use Rattle.kinds.specs.declared.Kind.{Kind}
-use Rattle.kinds.specs.Kinds.{isKind, kindOf, sizeOf, deviceOf, headerOf, identityOf, takesProgramChange}
+use Rattle.kinds.specs.Kinds.{isKind, kindOf, sizeOf, hasSpare, deviceOf, headerOf, identityOf, takesProgramChange}
 
 pub is-kind-one : (number : ℕ) (r s : Bool) → r ≡ isKind number → s ≡ isKind number → r ≡ s
 is-kind-one number r s = one
@@ -15,6 +15,9 @@ kind-of-one number r s = one
 
 pub size-one : (kind : Kind) (r s : ℕ) → r ≡ sizeOf kind → s ≡ sizeOf kind → r ≡ s
 size-one kind r s = one
+
+pub has-spare-one : (kind : Kind) (r s : Bool) → r ≡ hasSpare kind → s ≡ hasSpare kind → r ≡ s
+has-spare-one kind r s = one
 
 pub device-one : (kind : Kind) (r s : ℕ) → r ≡ deviceOf kind → s ≡ deviceOf kind → r ≡ s
 device-one kind r s = one

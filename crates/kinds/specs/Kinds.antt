@@ -23,6 +23,11 @@ unfoldable pub sizeOf : Kind → ℕ
 sizeOf Pod = 72
 sizeOf BassPod = 80
 
+-- "byte 71 is a spare", the last of a POD's program, which a dump may leave out; "The Bass kind has one length only."
+unfoldable pub hasSpare : Kind → Bool
+hasSpare Pod = true
+hasSpare BassPod = false
+
 -- no program of any kind is larger
 abbrev pub largest : ℕ
 largest = 80

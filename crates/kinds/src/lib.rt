@@ -1,6 +1,6 @@
 // The kinds of unit that a box may be set as, and all that hangs on the kind: a third kind is a case more of each `match`.
 ghost use mathlib.Core.Path.{_≡_};
-ghost use Rattle.kinds.specs.Kinds.{isKind, kindOf, sizeOf, deviceOf, headerOf, identityOf, takesProgramChange};
+ghost use Rattle.kinds.specs.Kinds.{isKind, kindOf, sizeOf, hasSpare, deviceOf, headerOf, identityOf, takesProgramChange};
 
 pub enum Kind {
     Pod,
@@ -42,6 +42,16 @@ pub fn size(kind: Kind) -> u8
     match kind {
         Kind::Pod => 72,
         Kind::BassPod => 80,
+    }
+}
+
+// Whether the last byte of a program is a spare one, which a dump may leave out.
+pub fn has_spare(kind: Kind) -> bool
+    ensures { λ r. ⌜ r ≡ hasSpare kind ⌝ }
+{
+    match kind {
+        Kind::Pod => true,
+        Kind::BassPod => false,
     }
 }
 

@@ -23,7 +23,14 @@ pub fn whole_message(
     ensures { λ r. ⌜ left r (heldOf (now (memory .exit)) (now (marks .exit))) (now (reply .exit)) ≡ wholeOf kind settings (now (message .entry)) (heldOf (now (memory .entry)) (now (marks .entry))) (now (reply .entry)) ⌝ }
 {
     if kinds::is_kind(kind) {
-        return handed(message, kinds::kind_of(kind), settings, memory, marks, reply);
+        return handed(
+            message,
+            kinds::kind_of(kind),
+            settings,
+            memory,
+            marks,
+            reply,
+        );
     }
     sysex::refused(32)
 }
@@ -49,7 +56,15 @@ fn handed(
         return sysex::refused(30);
     }
     if settings::are_in_range(settings, marks) {
-        return framed(message, settings::PANEL, kind, settings, memory, marks, reply);
+        return framed(
+            message,
+            settings::PANEL,
+            kind,
+            settings,
+            memory,
+            marks,
+            reply,
+        );
     }
     sysex::refused(32)
 }
@@ -72,7 +87,15 @@ fn framed(
     }
     if is_framed(message) {
         let end = message.len() - 1;
-        return sysex::carry_out(&message[..end], player, kind, settings, memory, marks, reply);
+        return sysex::carry_out(
+            &message[..end],
+            player,
+            kind,
+            settings,
+            memory,
+            marks,
+            reply,
+        );
     }
     sysex::refused(11)
 }

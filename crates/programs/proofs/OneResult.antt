@@ -3,7 +3,10 @@ use Prim.Native.Nat.{ℕ}
 use mathlib.Core.Path.{_≡_}
 use Rattle.kinds.specs.declared.Kind.{Kind}
 use Rattle.ground.proofs.OneResult.{one}
-use Rattle.programs.specs.Memory.{editPlace, memorySize}
+use Rattle.programs.specs.Memory.{editSlot, editPlace, memorySize}
+
+pub edit-slot-one : (player r s : ℕ) → r ≡ editSlot player → s ≡ editSlot player → r ≡ s
+edit-slot-one player r s = one
 
 pub edit-place-one : (kind : Kind) (player r s : ℕ) → r ≡ editPlace kind player → s ≡ editPlace kind player → r ≡ s
 edit-place-one kind player r s = one

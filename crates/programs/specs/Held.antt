@@ -1,9 +1,12 @@
 -- What the box holds, and what a message names of it.
-use Prim.Native.Nat.{ℕ}
+use Prim.Native.Nat.{ℕ, _-_, _*_}
+use mathlib.Core.Bool.{Bool, true, cond}
 use mathlib.Core.List.{List}
+use lib.ListN.{replicate}
 use Rattle.kinds.specs.declared.Kind.{Kind}
-use Rattle.kinds.specs.Kinds.{sizeOf}
-use Rattle.programs.specs.Memory.{programPlace, editPlace, allSize, partOf, putPart}
+use Rattle.kinds.specs.Kinds.{sizeOf, hasSpare}
+use Rattle.programs.specs.Memory.{programCount, programPlace, editSlot, editPlace, allSize, partOf, putPart}
+use Rattle.programs.specs.Spares.{withSpares, withoutSpares, allSet}
 
 -- all that the box keeps from call to call, but for what belongs to one socket: memory, and "a mark" for each program and the edit buffer
 pub record Held : Type 0 where
@@ -37,6 +40,43 @@ bytesIn kind player t held = partOf (placeFor kind player t) (countFor kind t) (
 abbrev pub putIn : Kind → ℕ → Target → List ℕ → Held → Held
 putIn kind player t bytes held = heldOf (putPart (placeFor kind player t) (countFor kind t) bytes (held .memory)) (held .marks)
 
--- what a dump does: what is named becomes these bytes
-abbrev pub storeIn : Kind → ℕ → Target → List ℕ → Held → Held
-storeIn kind player t bytes held = putIn kind player t bytes held
+-- its marks, in the order of memory: the first, and how many
+abbrev pub slotFor : ℕ → Target → ℕ
+slotFor player (One p) = p
+slotFor player Edit = editSlot player
+slotFor player All = 0
+
+abbrev pub slotsFor : Target → ℕ
+slotsFor (One p) = 1
+slotsFor Edit = 1
+slotsFor All = programCount
+
+-- A dump is long or, "the paper's 71 bytes", short: the bytes of a program that it has, and of what it names.
+abbrev pub sentSize : Kind → Bool → ℕ
+sentSize kind long = cond long (sizeOf kind) (sizeOf kind - 1)
+
+abbrev pub sentFor : Kind → Bool → Target → ℕ
+sentFor kind long (One p) = sentSize kind long
+sentFor kind long Edit = sentSize kind long
+sentFor kind long All = programCount * sentSize kind long
+
+-- "A short dump sets the spare byte to 0 and clears the mark"; a long one sets it. A kind that has no spare byte leaves the marks
+abbrev pub received : Kind → Target → Bool → List ℕ → List ℕ
+received kind t long bytes = cond long bytes (withSpares (sizeOf kind) (slotsFor t) bytes)
+
+abbrev pub marked : Kind → ℕ → Target → Bool → List ℕ → List ℕ
+marked kind player t long marks = cond (hasSpare kind) (putPart (slotFor player t) (slotsFor t) (replicate (slotsFor t) (cond long 1 0)) marks) marks
+
+-- what a dump does: what is named becomes its bytes, and nothing else changes
+abbrev pub storeIn : Kind → ℕ → Target → Bool → List ℕ → Held → Held
+storeIn kind player t long bytes held =
+    heldOf (putPart (placeFor kind player t) (countFor kind t) (received kind t long bytes) (held .memory)) (marked kind player t long (held .marks))
+
+-- "Single dumps go out in the length their mark says; an all programs dump is long only if all 36 marks are set."
+abbrev pub goesLong : Kind → ℕ → Target → Held → Bool
+goesLong kind player t held = cond (hasSpare kind) (allSet (partOf (slotFor player t) (slotsFor t) (held .marks))) true
+
+-- the bytes of the dump that goes out; "the spare bytes that were received stay in memory"
+abbrev pub bytesOut : Kind → ℕ → Target → Held → List ℕ
+bytesOut kind player t held =
+    cond (goesLong kind player t held) (bytesIn kind player t held) (withoutSpares (sizeOf kind) (slotsFor t) (bytesIn kind player t held))

@@ -16,9 +16,12 @@ lastProgram = 0x23
 abbrev pub programPlace : Kind → ℕ → ℕ
 programPlace kind program = program * sizeOf kind
 
--- the edit buffer of a player, the socket that sends: one edit buffer serves both
+-- the edit buffer of a player, the socket that sends, behind the programs: one edit buffer serves both
+abbrev pub editSlot : ℕ → ℕ
+editSlot player = programCount
+
 abbrev pub editPlace : Kind → ℕ → ℕ
-editPlace kind player = programCount * sizeOf kind
+editPlace kind player = editSlot player * sizeOf kind
 
 -- the bytes of all programs, and of memory: "2,664 bytes in all", or "2,960"; "More may be lent; the rest is not touched."
 abbrev pub allSize : Kind → ℕ

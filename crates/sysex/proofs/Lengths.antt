@@ -4,14 +4,14 @@ use mathlib.Core.List.{map}
 use mathlib.Core.Path.{_≡_, refl}
 use native.Mathlib.Omega.{arith}
 use Rattle.kinds.specs.declared.Kind.{Kind}
-use Rattle.kinds.specs.Kinds.{sizeOf, largest, namePlace}
+use Rattle.kinds.specs.Kinds.{sizeOf, hasSpare, largest, namePlace}
 use Rattle.kinds.proofs.AnyKind.{size-bounds}
 use Rattle.programs.specs.Memory.{programCount}
 use Rattle.sysex.specs.Forms.{bodyLength, longest}
 use Rattle.sysex.specs.Lengths.{Lengths, lengths, derived}
 
 pub as-the-table-says : map (λ (row : Lengths). derived (row .kind)) lengths ≡ lengths
-unfolding sizeOf namePlace bodyLength
+unfolding sizeOf hasSpare namePlace bodyLength
 as-the-table-says = refl
 
 -- the longest message of any kind

@@ -23,7 +23,7 @@ pub check-number : (c : Check) → (10 ≤ checkNumber c) × (checkNumber c ≤ 
 check-number (TooLong most) = (omega arith, omega arith)
 check-number (Ours device) = (omega arith, omega arith)
 check-number OpcodeAndType = (omega arith, omega arith)
-check-number (Length right) = (omega arith, omega arith)
+check-number (Length long shortest) = (omega arith, omega arith)
 check-number (Program highest) = (omega arith, omega arith)
 check-number (Version right) = (omega arith, omega arith)
 check-number (HalfBytes highest) = (omega arith, omega arith)

@@ -1,12 +1,13 @@
 -- What the judge answers, with what it says of the body: an order is given for a body of its format, and for no other.
-use Prim.Native.Nat.{ℕ, _+_, _*_}
-use mathlib.Core.Bool.{true, false, _&&_, false≢true}
+use Prim.Native.Nat.{ℕ, _+_, _-_, _*_, _<_}
+use mathlib.Core.Bool.{Bool, true, false, not, _&&_, false≢true}
 use mathlib.Core.List.{List, [], _∷_, _++_}
-use mathlib.Core.Path.{_≡_, refl, sym, ap, _∙_}
+use mathlib.Core.Logic.{_⊎_, inl, inr, ⊎-elim}
+use mathlib.Core.Path.{_≡_, refl, sym, ap, subst, _∙_}
 use native.Mathlib.Omega.{arith}
 use lib.Dec.{eqb, leb}
 use lib.ListN.{length, getD, drop, length-drop, drop-of-length-le}
-use borrow.Author.Tests.{eqb-true, eqb-false, leb-true}
+use borrow.Author.Tests.{eqb-true, eqb-false, leb-true, eq-eqb, ne-eqb}
 use Rattle.ground.specs.Lists.{allAtMost}
 use Rattle.ground.proofs.Lists.{drop-one, drop-two}
 use Rattle.ground.specs.Tests.{AllHold}
@@ -18,11 +19,13 @@ use Rattle.sysex.specs.declared.Settings.{Settings}
 use Rattle.sysex.specs.declared.Order.{Order}
 use Rattle.sysex.specs.declared.Order.the-variants.{Refused}
 use Rattle.kinds.specs.declared.Kind.{Kind}
-use Rattle.kinds.specs.Kinds.{headerOf}
-use Rattle.programs.specs.Held.{Target, One, Edit, All, countFor}
-use Rattle.sysex.specs.Forms.{begins, opcodeOf, typeOf, programOf, request, program, edit, versionPlace, dataPlace, dataCount, bodyLength}
-use Rattle.sysex.specs.Forms.{typeFor, ppFor, requestBody, identityBody, isIdentity, isOurChannel}
+use Rattle.kinds.specs.Kinds.{sizeOf, hasSpare, headerOf}
+use Rattle.kinds.proofs.AnyKind.{size-bounds}
+use Rattle.programs.specs.Held.{Target, One, Edit, All, countFor, slotsFor, sentSize, sentFor}
+use Rattle.sysex.specs.Forms.{begins, opcodeOf, typeOf, programOf, request, program, edit, versionPlace, dataPlace, dataCount, bodyLength, shortest}
+use Rattle.sysex.specs.Forms.{typeFor, ppFor, requestBody, dumpBody, identityBody, isIdentity, isOurChannel}
 use Rattle.sysex.specs.Judging.{hasForm, hasProgram, furtherTests, testsOf, orderOf, formOrder, bodyOrder, judgeOf}
+use Rattle.sysex.specs.Carrying.{isLong}
 use Rattle.sysex.specs.Private.{HasData, Fits}
 use Rattle.sysex.specs.Formats.{There, IsDump, IsRequest, IsIdentity, Meant, identity, asked, dumped, unsaid}
 use Rattle.sysex.proofs.Judged.{Right, right}
@@ -37,6 +40,36 @@ begun (x ∷ start) (b ∷ body) t =
     let rest = begun start body (p .1) in
     λ i. same i ∷ rest i
 
+-- the bytes that a dump has of what it names: by slots, in half bytes, and all of them or fewer
+sent-slots : (kind : Kind) (long : Bool) (t : Target) → sentFor kind long t ≡ slotsFor t * sentSize kind long
+sent-slots kind long (One p) = omega arith
+sent-slots kind long Edit = omega arith
+sent-slots kind long All = refl
+
+halves-sent : (kind : Kind) (long : Bool) (t : Target) → dataCount kind long (typeFor t) ≡ 2 * sentFor kind long t
+halves-sent kind long (One p) = refl
+halves-sent kind long Edit = refl
+halves-sent kind long All = refl
+
+long-all : (kind : Kind) (t : Target) → sentFor kind true t ≡ countFor kind t
+long-all kind (One p) = refl
+long-all kind Edit = refl
+long-all kind All = refl
+
+short-fewer : (kind : Kind) (t : Target) → sentFor kind false t < countFor kind t
+short-fewer kind (One p) = omega (arith, size-bounds kind .0)
+short-fewer kind Edit = omega (arith, size-bounds kind .0)
+short-fewer kind All = omega (arith, size-bounds kind .0)
+
+-- so its length says whether it is long
+pub is-long : (kind : Kind) (t : Target) (long : Bool) (body : List ℕ) → length body ≡ dataPlace (typeFor t) + 2 * sentFor kind long t → isLong kind t body ≡ long
+is-long kind t true body e = eq-eqb _ _ (e ∙ ap (λ (n : ℕ). dataPlace (typeFor t) + 2 * n) (long-all kind t))
+is-long kind t false body e = ne-eqb (length body) (dataPlace (typeFor t) + 2 * countFor kind t) (λ h. omega (arith, short-fewer kind t))
+
+shortest-spare : (has : Bool) → not has ≡ false → has ≡ true
+shortest-spare true e = refl
+shortest-spare false e = sym e
+
 module _ (kind : Kind) (body : List ℕ) (r : Right kind body) where
   -- header, opcode, type, and what stands behind them
   opened : body ≡ (headerOf kind) ++ (opcodeOf body ∷ typeOf body ∷ drop 7 body)
@@ -48,7 +81,7 @@ module _ (kind : Kind) (body : List ℕ) (r : Right kind body) where
 
     whole-request : length body ≡ versionPlace (typeOf body)
     unfolding bodyLength
-    whole-request = rw d at (r .whole)
+    whole-request = ⊎-elim (λ w. rw d at w) (λ w. rw d at w) (r .whole)
 
     -- nothing behind the type, or the program alone
     request-plain : (t : Target) → typeOf body ≡ typeFor t → versionPlace (typeFor t) ≡ 7 → requestBody kind t ≡ (headerOf kind) ++ (0 ∷ typeFor t ∷ []) → There t → IsRequest kind t body
@@ -72,47 +105,62 @@ module _ (kind : Kind) (body : List ℕ) (r : Right kind body) where
     is-dump : opcodeOf body ≡ 1
     is-dump = let small = r .opcode in let some = eqb-false (opcodeOf body) request d in omega arith
 
-    whole-dump : length body ≡ dataPlace (typeOf body) + dataCount kind (typeOf body)
+    whole-dump : (length body ≡ dataPlace (typeOf body) + dataCount kind true (typeOf body)) ⊎ (length body ≡ dataPlace (typeOf body) + dataCount kind (shortest kind) (typeOf body))
     unfolding bodyLength
-    whole-dump = rw d at (r .whole)
+    whole-dump = ⊎-elim (λ w. inl (rw d at w)) (λ w. inr (rw d at w)) (r .whole)
 
-    -- the data are the halves of the bytes that they join to
-    data-halves : (t : Target) → typeOf body ≡ typeFor t → dataCount kind (typeFor t) ≡ 2 * countFor kind t
-        → (drop (dataPlace (typeFor t)) body ≡ split (join (drop (dataPlace (typeFor t)) body))) × (length (join (drop (dataPlace (typeFor t)) body)) ≡ countFor kind t)
-        × (allAtMost 0xFF (join (drop (dataPlace (typeFor t)) body)) ≡ true)
-    data-halves t e k =
-        let place = dataPlace (typeFor t) in
-        let halves = rw e at (r .halves d) in
-        let whole = rw e at whole-dump in
-        let long : length (drop place body) ≡ 2 * countFor kind t = omega (arith, length-drop place body) in
-        (sym (split-join (drop place body) (countFor kind t) long halves), omega (arith, length-join (drop place body)), join-bytes (drop place body) halves)
+    module _ (t : Target) (e : typeOf body ≡ typeFor t) where
+      abbrev place : ℕ
+      place = dataPlace (typeFor t)
 
-    dump-plain : (t : Target) → typeOf body ≡ typeFor t → versionPlace (typeFor t) ≡ 7 → ppFor t ≡ [] → dataCount kind (typeFor t) ≡ 2 * countFor kind t → There t
-        → IsDump kind t (join (drop 8 body)) body
-    dump-plain t e v p k h =
-        let x = rw v at (data-halves t e k) in
+      abbrev bytes : List ℕ
+      bytes = join (drop place body)
+
+      -- a dump is long or short, as its length says
+      by-length : ((long : Bool) → (long ≡ false → hasSpare kind ≡ true) → length body ≡ place + 2 * sentFor kind long t → IsDump kind t long bytes body)
+          → IsDump kind t (isLong kind t body) bytes body
+      by-length made = ⊎-elim (go true (λ z. absurd (false≢true (sym z)))) (go (shortest kind) (shortest-spare (hasSpare kind))) whole-dump
+        where
+          go : (long : Bool) → (long ≡ false → hasSpare kind ≡ true) → length body ≡ dataPlace (typeOf body) + dataCount kind long (typeOf body) → IsDump kind t (isLong kind t body) bytes body
+          go long spare w =
+              let whole = (rw e at w) ∙ ap (λ (n : ℕ). place + n) (halves-sent kind long t) in
+              subst (λ (b : Bool). IsDump kind t b bytes body) (sym (is-long kind t long body whole)) (made long spare whole)
+
+      -- the data are the halves of the bytes that they join to
+      data-halves : (long : Bool) → length body ≡ place + 2 * sentFor kind long t
+          → (drop place body ≡ split bytes) × (length bytes ≡ sentFor kind long t) × (allAtMost 0xFF bytes ≡ true)
+      data-halves long whole =
+          let halves = rw e at (r .halves d) in
+          let count : length (drop place body) ≡ 2 * sentFor kind long t = omega (arith, length-drop place body) in
+          (sym (split-join (drop place body) (sentFor kind long t) count halves), omega (arith, length-join (drop place body)), join-bytes (drop place body) halves)
+
+    dump-plain : (t : Target) → typeOf body ≡ typeFor t → versionPlace (typeFor t) ≡ 7 → ppFor t ≡ [] → There t
+        → IsDump kind t (isLong kind t body) (join (drop (dataPlace (typeFor t)) body)) body
+    dump-plain t e v p h = by-length t e (λ long spare whole.
+        let x = data-halves t e long whole in
         let version = rw (e, v) at (r .version d) in
-        let whole = rw (e, v) at whole-dump in
         record {
           there = h;
+          spare = spare;
           count = x .1;
           whole-bytes = x .2;
-          form = opened ∙ (rw (is-dump, e, p, drop-one body 7 (omega arith), version, ← x .0));
-        }
+          form = opened ∙ (rw (is-dump, e, p, drop-one body 7 (omega arith), version, ← x .0, v));
+        })
 
-    dump-one : eqb (typeOf body) program ≡ true → IsDump kind (One (programOf body)) (join (drop 9 body)) body
+    dump-one : eqb (typeOf body) program ≡ true → IsDump kind (One (programOf body)) (isLong kind (One (programOf body)) body) (join (drop 9 body)) body
     unfolding hasProgram
     dump-one t =
         let e = eqb-true (typeOf body) program t in
-        let x = data-halves (One (programOf body)) e refl in
+        by-length (One (programOf body)) e (λ long spare whole.
+        let x = data-halves (One (programOf body)) e long whole in
         let version = rw e at (r .version d) in
-        let whole = rw e at whole-dump in
         record {
           there = leb-true _ _ (rw t at (r .numbered));
+          spare = spare;
           count = x .1;
           whole-bytes = x .2;
           form = opened ∙ (rw (is-dump, e, drop-two body 7 (omega arith), version, ← x .0));
-        }
+        })
 
 module _ (kind : Kind) (settings : Settings) (body : List ℕ) where
   abbrev Means : Order → Type 0
@@ -132,8 +180,8 @@ module _ (kind : Kind) (settings : Settings) (body : List ℕ) where
       (λ d. by Means (eqb (typeOf body) program) _ _
       (λ t. dumped (One (programOf body)) (dump-one kind body r d t))
       (λ t. by Means (eqb (typeOf body) edit) _ _
-      (λ u. dumped Edit (dump-plain kind body r d Edit (eqb-true _ _ u) refl refl refl tt))
-      (λ u. dumped All (dump-plain kind body r d All (all-left t u) refl refl refl tt))))
+      (λ u. dumped Edit (dump-plain kind body r d Edit (eqb-true _ _ u) refl refl tt))
+      (λ u. dumped All (dump-plain kind body r d All (all-left t u) refl refl tt))))
 
   identity-meant : isIdentity body ≡ true → isOurChannel settings (getD body 2 0) ≡ true → IsIdentity settings (getD body 2 0) body
   unfolding isIdentity
@@ -158,19 +206,30 @@ module _ (kind : Kind) (settings : Settings) (body : List ℕ) where
 
 -- what an order needs of its body to be carried out
 module _ (kind : Kind) (settings : Settings) (body : List ℕ) where
-  has-data : (t : Target) (bytes : List ℕ) → IsDump kind t bytes body → HasData (typeFor t) (countFor kind t) body
-  has-data (One p) bytes d = rw (d .form) (omega (arith, length-split bytes, d .count), split-halves bytes (d .whole-bytes))
-  has-data Edit bytes d = rw (d .form) (omega (arith, length-split bytes, d .count), split-halves bytes (d .whole-bytes))
-  has-data All bytes d = rw (d .form) (omega (arith, length-split bytes, d .count), split-halves bytes (d .whole-bytes))
+  data-behind : (t : Target) (bytes : List ℕ) → (length (dumpBody kind t bytes) ≡ dataPlace (typeFor t) + 2 * length bytes) × (drop (dataPlace (typeFor t)) (dumpBody kind t bytes) ≡ split bytes)
+  data-behind (One p) bytes = (omega (arith, length-split bytes), refl)
+  data-behind Edit bytes = (omega (arith, length-split bytes), refl)
+  data-behind All bytes = (omega (arith, length-split bytes), refl)
+
+  has-data : (t : Target) (long : Bool) (bytes : List ℕ) → IsDump kind t long bytes body → HasData kind (typeFor t) (slotsFor t) body
+  has-data t long bytes x =
+      let behind = data-behind t bytes in
+      let whole : length body ≡ dataPlace (typeFor t) + 2 * (slotsFor t * sentSize kind long) = rw (x .form) (omega (arith, behind .0, x .count, sent-slots kind long t)) in
+      (go long whole, rw (x .form, behind .1) (split-halves bytes (x .whole-bytes)))
+    where
+      go : (long : Bool) → length body ≡ dataPlace (typeFor t) + 2 * (slotsFor t * sentSize kind long)
+          → (length body ≡ dataPlace (typeFor t) + 2 * (slotsFor t * sizeOf kind)) ⊎ (length body ≡ dataPlace (typeFor t) + 2 * (slotsFor t * (sizeOf kind - 1)))
+      go true e = inl e
+      go false e = inr e
 
   fits : (o : Order) → Meant kind settings body o → Fits kind o body
   fits o (identity channel i) = tt
   fits o (asked (One p) q) = q .there
   fits o (asked Edit q) = tt
   fits o (asked All q) = tt
-  fits o (dumped (One p) d) = (d .there, has-data (One p) _ d)
-  fits o (dumped Edit d) = has-data Edit _ d
-  fits o (dumped All d) = has-data All _ d
+  fits o (dumped (One p) d) = (d .there, has-data (One p) _ _ d)
+  fits o (dumped Edit d) = has-data Edit _ _ d
+  fits o (dumped All d) = has-data All _ _ d
   fits o (unsaid check) = tt
 
   pub judged-fits : Fits kind (judgeOf kind settings body) body

@@ -11,9 +11,11 @@ use Rattle.ground.proofs.Lists.{drop-one, one-written}
 use Rattle.halves.specs.HalfBytes.{split}
 use Rattle.halves.proofs.Laws.{length-split}
 use Rattle.kinds.specs.declared.Kind.{Kind}
-use Rattle.kinds.specs.Kinds.{headerOf, identityOf}
-use Rattle.kinds.proofs.AnyKind.{identity-bytes}
+use Rattle.kinds.specs.Kinds.{sizeOf, headerOf, identityOf}
+use Rattle.kinds.proofs.AnyKind.{size-bounds, identity-bytes}
 use Rattle.programs.specs.Memory.{putPart}
+use Rattle.programs.specs.Spares.{withoutSpares}
+use Rattle.programs.proofs.Spares.{without-length}
 use Rattle.sysex.specs.declared.Settings.{Settings}
 use Rattle.sysex.specs.Forms.{dump, version, dumpStart, identityReply, ended}
 
@@ -53,13 +55,30 @@ module _ (kind : Kind) (type : ℕ) (pp part : List ℕ) where
   pub dump-length : length (ended body) ≡ 8 + length pp + 2 * length part + 1
   dump-length = omega (arith, length-append body (0xF7 ∷ []), body-length)
 
-  pub dumped : (place : ℕ) (x r₀ r₁ r₂ r₃ : List ℕ) → place ≡ 8 + length pp → r₁ ≡ written (dumpStart kind type pp) r₀
-      → x ≡ split part → r₂ ≡ putPart place (place + 2 * length part - place) x r₁ → r₃ ≡ putPart (place + 2 * length part) 1 (0xF7 ∷ []) r₂
+  pub dumped : (place : ℕ) (r₀ r₁ r₂ r₃ : List ℕ) → place ≡ 8 + length pp → r₁ ≡ written (dumpStart kind type pp) r₀
+      → r₂ ≡ putPart place (2 * length part) (split part) r₁ → r₃ ≡ putPart (place + 2 * length part) 1 (0xF7 ∷ []) r₂
       → r₃ ≡ written (ended body) r₀
-  dumped place x r₀ r₁ r₂ r₃ p e₁ d e₂ e₃ =
+  dumped place r₀ r₁ r₂ r₃ p e₁ e₂ e₃ =
       let s₂ : r₂ ≡ written body r₀ =
-      e₂ ∙ (rw (add-sub-cancel-left place (2 * length part), d, e₁) (written-more place (2 * length part) (dumpStart kind type pp) (split part) r₀ (start-length ∙ sym p) (length-split part))) in
+      e₂ ∙ (rw e₁ (written-more place (2 * length part) (dumpStart kind type pp) (split part) r₀ (start-length ∙ sym p) (length-split part))) in
       e₃ ∙ (rw s₂ (written-more (place + 2 * length part) 1 body (0xF7 ∷ []) r₀ (omega (arith, body-length)) refl))
+
+-- the same of a dump without spare bytes, and its length
+pub dumped-short : (kind : Kind) (type : ℕ) (pp part : List ℕ) (slots size place end : ℕ) (r₀ r₁ r₂ r₃ : List ℕ) → size ≡ sizeOf kind → length part ≡ slots * sizeOf kind
+    → place ≡ 8 + length pp → r₁ ≡ written (dumpStart kind type pp) r₀ → end ≡ place + 2 * (slots * (size - 1))
+    → r₂ ≡ putPart place (2 * (slots * (size - 1))) (split (withoutSpares size slots part)) r₁ → r₃ ≡ putPart end 1 (0xF7 ∷ []) r₂
+    → (let whole = ended (dumpStart kind type pp ++ split (withoutSpares (sizeOf kind) slots part)) in (end + 1 ≡ length whole) × (r₃ ≡ written whole r₀))
+dumped-short kind type pp part slots size place end r₀ r₁ r₂ r₃ s long p e₁ q e₂ e₃ =
+    let out = withoutSpares (sizeOf kind) slots part in
+    let count : 2 * (slots * (size - 1)) ≡ 2 * length out = rw s (ap (λ (n : ℕ). 2 * n) (sym (without-length (sizeOf kind) (size-bounds kind .0) slots part long))) in
+    let behind : end ≡ place + 2 * length out = q ∙ ap (λ (n : ℕ). place + n) count in (
+      omega (arith, dump-length kind type pp out),
+      dumped kind type pp out place r₀ r₁ r₂ r₃ p e₁ (e₂ ∙ (λ i. putPart place (count i) (split (withoutSpares (s i) slots part)) r₁)) (e₃ ∙ ap (λ (n : ℕ). putPart n 1 (0xF7 ∷ []) r₂) behind),
+    )
+
+-- a part that was lent comes back in its place
+pub lent-put : (place n : ℕ) (x y reply : List ℕ) → x ≡ y → putPart place (place + n - place) x reply ≡ putPart place n y reply
+lent-put place n x y reply e = λ i. putPart place (add-sub-cancel-left place n i) (e i) reply
 
 -- the identity reply, with the four bytes that the kind tells one by one
 pub identified : (kind : Kind) (settings : Settings) (channel : ℕ) (told : List ℕ) → told ≡ identityOf kind

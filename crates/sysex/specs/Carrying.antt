@@ -1,7 +1,8 @@
 -- What an order does to what the box holds and to the reply buffer.
-use Prim.Native.Nat.{ℕ}
+use Prim.Native.Nat.{ℕ, _+_, _*_}
+use mathlib.Core.Bool.{Bool}
 use mathlib.Core.List.{List, [], _∷_}
-use lib.Dec.{leb}
+use lib.Dec.{eqb, leb}
 use lib.ListN.{length, drop}
 use Rattle.ground.specs.Tests.{Test, test, tested}
 use Rattle.ground.specs.Calls as any
@@ -9,7 +10,7 @@ use Rattle.ground.specs.Calls.{outcome, left, leaves}
 use Rattle.halves.specs.HalfBytes.{join}
 use Rattle.kinds.specs.declared.Kind.{Kind}
 use Rattle.programs.specs.Memory.{memorySize, markCount}
-use Rattle.programs.specs.Held.{Held, Target, One, Edit, All, bytesIn, storeIn}
+use Rattle.programs.specs.Held.{Held, Target, One, Edit, All, countFor, storeIn, bytesOut}
 use Rattle.sysex.specs.declared.Settings.{Settings}
 use Rattle.sysex.specs.declared.Order.{Order}
 use Rattle.sysex.specs.declared.Order.the-variants as order
@@ -34,11 +35,15 @@ sending bytes held = outcome (Sent (length bytes)) held bytes
 
 -- "Requests are answered by the dump with the same type"
 abbrev pub answering : Kind → ℕ → Target → Held → Outcome
-answering kind player t held = sending (ended (dumpBody kind t (bytesIn kind player t held))) held
+answering kind player t held = sending (ended (dumpBody kind t (bytesOut kind player t held))) held
+
+-- a dump is long where it has two half bytes for each byte of what it names
+abbrev pub isLong : Kind → Target → List ℕ → Bool
+isLong kind t body = eqb (length body) (dataPlace (typeFor t) + 2 * countFor kind t)
 
 -- the bytes of a dump's data become what it names
 abbrev pub storing : Kind → ℕ → Target → List ℕ → Held → Outcome
-storing kind player t body held = outcome Stored (storeIn kind player t (join (drop (dataPlace (typeFor t)) body)) held) []
+storing kind player t body held = outcome Stored (storeIn kind player t (isLong kind t body) (join (drop (dataPlace (typeFor t)) body)) held) []
 
 -- the order of a player's message
 unfoldable pub orderDoes : Kind → Settings → ℕ → Order → List ℕ → Held → Outcome

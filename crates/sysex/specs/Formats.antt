@@ -1,18 +1,20 @@
 -- What a dump, a request and an identity request are, said without the judge: as formats.
 use Prim.Native.Nat.{ℕ, _≤_}
-use mathlib.Core.Bool.{true}
+use mathlib.Core.Bool.{Bool, true, false}
 use mathlib.Core.List.{List}
 use mathlib.Core.Path.{_≡_}
 use lib.ListN.{length, drop}
 use Rattle.ground.specs.Lists.{allAtMost}
 use Rattle.halves.specs.HalfBytes.{join}
 use Rattle.kinds.specs.declared.Kind.{Kind}
+use Rattle.kinds.specs.Kinds.{hasSpare}
 use Rattle.programs.specs.Memory.{lastProgram}
-use Rattle.programs.specs.Held.{Target, One, Edit, All, countFor}
+use Rattle.programs.specs.Held.{Target, One, Edit, All, sentFor}
 use Rattle.sysex.specs.declared.Settings.{Settings}
 use Rattle.sysex.specs.declared.Check.{Check}
 use Rattle.sysex.specs.declared.Order.{Order}
 use Rattle.sysex.specs.declared.Order.the-variants.{Identify, SendProgram, SendEdit, SendAll, StoreProgram, StoreEdit, StoreAll, Refused}
+use Rattle.sysex.specs.Carrying.{isLong}
 use Rattle.sysex.specs.Forms.{typeFor, dataPlace, requestBody, dumpBody, identityBody, isOurChannel}
 
 -- the program is one of the 36
@@ -21,9 +23,11 @@ There (One p) = p ≤ lastProgram
 There Edit = Unit {0}
 There All = Unit {0}
 
-pub record IsDump (kind : Kind) (t : Target) (bytes body : List ℕ) : Type 0 where
+-- a dump has all bytes of each program or, where they have a spare byte, all but that one: "72 or 71 bytes a program"
+pub record IsDump (kind : Kind) (t : Target) (long : Bool) (bytes body : List ℕ) : Type 0 where
   pub there : There t
-  pub count : length bytes ≡ countFor kind t
+  pub spare : long ≡ false → hasSpare kind ≡ true
+  pub count : length bytes ≡ sentFor kind long t
   pub whole-bytes : allAtMost 0xFF bytes ≡ true
   pub form : body ≡ dumpBody kind t bytes
 
@@ -52,5 +56,5 @@ storeOrder All = StoreAll
 pub data Meant (kind : Kind) (settings : Settings) (body : List ℕ) : Order → Type 0 where
   identity : (cc : ℕ) → IsIdentity settings cc body → Meant kind settings body (Identify cc)
   asked : (t : Target) → IsRequest kind t body → Meant kind settings body (sendOrder t)
-  dumped : (t : Target) → IsDump kind t (join (drop (dataPlace (typeFor t)) body)) body → Meant kind settings body (storeOrder t)
+  dumped : (t : Target) → IsDump kind t (isLong kind t body) (join (drop (dataPlace (typeFor t)) body)) body → Meant kind settings body (storeOrder t)
   unsaid : (check : Check) → Meant kind settings body (Refused check)

@@ -1,14 +1,14 @@
 -- "SysEx forms". A message's body is F0 and the bytes after it, without F7, as it stands in a receive buffer.
 use Prim.Native.Nat.{ℕ, _+_, _*_}
-use mathlib.Core.Bool.{Bool, cond, _&&_, true, false}
+use mathlib.Core.Bool.{Bool, cond, not, _&&_, true, false}
 use mathlib.Core.List.{List, [], _∷_, _++_}
 use lib.Dec.{eqb, leb}
 use lib.ListN.{length, getD}
 use Rattle.halves.specs.HalfBytes.{split}
 use Rattle.kinds.specs.declared.Kind.{Kind}
-use Rattle.kinds.specs.Kinds.{sizeOf, headerOf, identityOf}
-use Rattle.programs.specs.Memory.{allSize}
-use Rattle.programs.specs.Held.{Target, One, Edit, All}
+use Rattle.kinds.specs.Kinds.{hasSpare, headerOf, identityOf}
+use Rattle.programs.specs.Memory.{programCount}
+use Rattle.programs.specs.Held.{Target, One, Edit, All, sentSize}
 use Rattle.sysex.specs.declared.Settings.{Settings}
 
 -- a list's first bytes are those of another
@@ -55,26 +55,30 @@ versionPlace type = cond (eqb type program) 8 7
 abbrev pub dataPlace : ℕ → ℕ
 dataPlace type = versionPlace type + 1
 
--- "144 data bytes", "5,184"; "160 half bytes", "5,760 half bytes": two for each byte
-abbrev pub dataCount : Kind → ℕ → ℕ
-dataCount kind type = cond (eqb type all) (2 * allSize kind) (2 * sizeOf kind)
+-- "144 data bytes", "5,184"; "160 half bytes", "5,760 half bytes"; of a short dump "142 half bytes a program": two for each byte
+abbrev pub dataCount : Kind → Bool → ℕ → ℕ
+dataCount kind long type = cond (eqb type all) (2 * (programCount * sentSize kind long)) (2 * sentSize kind long)
 
 -- "Whole length", less F7 and with it: a request ends where a dump has its version
-unfoldable pub bodyLength : Kind → ℕ → ℕ → ℕ
-bodyLength kind opcode type = cond (eqb opcode request) (versionPlace type) (dataPlace type + dataCount kind type)
+unfoldable pub bodyLength : Kind → Bool → ℕ → ℕ → ℕ
+bodyLength kind long opcode type = cond (eqb opcode request) (versionPlace type) (dataPlace type + dataCount kind long type)
 
-abbrev pub wholeLength : Kind → ℕ → ℕ → ℕ
-wholeLength kind opcode type = bodyLength kind opcode type + 1
+abbrev pub wholeLength : Kind → Bool → ℕ → ℕ → ℕ
+wholeLength kind long opcode type = bodyLength kind long opcode type + 1
 
--- the whole length of the longest message: an all programs dump
+-- "On a POD box take both": a dump may be short where programs have a spare byte, else the shortest is long too
+abbrev pub shortest : Kind → Bool
+shortest kind = not (hasSpare kind)
+
+-- the whole length of the longest message: a long all programs dump
 abbrev pub longest : Kind → ℕ
-longest kind = dataPlace all + dataCount kind all + 1
+longest kind = dataPlace all + dataCount kind true all + 1
 
 -- the column "Whole length" of the table of forms, in its order
-abbrev pub wholeLengths : Kind → List ℕ
-wholeLengths kind =
-    wholeLength kind request program ∷ wholeLength kind request edit ∷ wholeLength kind request all
-    ∷ wholeLength kind dump program ∷ wholeLength kind dump edit ∷ wholeLength kind dump all ∷ []
+abbrev pub wholeLengths : Kind → Bool → List ℕ
+wholeLengths kind long =
+    wholeLength kind long request program ∷ wholeLength kind long request edit ∷ wholeLength kind long request all
+    ∷ wholeLength kind long dump program ∷ wholeLength kind long dump edit ∷ wholeLength kind long dump all ∷ []
 
 -- the type of what is named, and "pp"
 abbrev pub typeFor : Target → ℕ

@@ -15,7 +15,7 @@ use Rattle.sysex.specs.declared.Check.{Check}
 use Rattle.sysex.specs.declared.Check.the-variants.{Ours, OpcodeAndType, Length, Program, Version, HalfBytes, Channel}
 use Rattle.sysex.specs.declared.Order.{Order}
 use Rattle.sysex.specs.declared.Order.the-variants.{Identify, SendProgram, SendEdit, SendAll, StoreProgram, StoreEdit, StoreAll, Refused}
-use Rattle.sysex.specs.Forms.{begins, opcodeOf, typeOf, programOf, request, dump, program, edit, all, version, versionPlace, dataPlace, bodyLength, wholeLength, isIdentity, isOurChannel}
+use Rattle.sysex.specs.Forms.{begins, opcodeOf, typeOf, programOf, request, dump, program, edit, all, version, versionPlace, dataPlace, bodyLength, wholeLength, shortest, isIdentity, isOurChannel}
 
 -- an order, unless a check fails
 abbrev pub judgedBy : List (Test Check) → Order → Order
@@ -29,9 +29,10 @@ hasForm kind body = isIdentity body || begins (headerOf kind) body
 abbrev pub isKnown : List ℕ → Bool
 isKnown body = leb 7 (length body) && (leb (opcodeOf body) dump && leb (typeOf body) all)
 
--- 13 "wrong length"
+-- 13 "wrong length": "13 is for a length that is neither"
 abbrev pub hasLength : Kind → List ℕ → Bool
-hasLength kind body = eqb (length body) (bodyLength kind (opcodeOf body) (typeOf body))
+hasLength kind body =
+    eqb (length body) (bodyLength kind true (opcodeOf body) (typeOf body)) || eqb (length body) (bodyLength kind (shortest kind) (opcodeOf body) (typeOf body))
 
 -- 14 "program above 0x23"
 unfoldable pub hasProgram : ℕ → ℕ → Bool
@@ -52,7 +53,7 @@ fieldTests opcode type body =
 abbrev pub formTests : Kind → List ℕ → List (Test Check)
 formTests kind body =
     test OpcodeAndType (isKnown body)
-    ∷ test (Length (wholeLength kind (opcodeOf body) (typeOf body))) (hasLength kind body)
+    ∷ test (Length (wholeLength kind true (opcodeOf body) (typeOf body)) (wholeLength kind (shortest kind) (opcodeOf body) (typeOf body))) (hasLength kind body)
     ∷ fieldTests (opcodeOf body) (typeOf body) body
 
 -- "Taken when cc is the channel, or 7F, or omni is on; else 22."

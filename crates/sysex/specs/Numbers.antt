@@ -39,7 +39,7 @@ abbrev pub checkNumber : Check → ℕ
 checkNumber (check.TooLong most) = 10
 checkNumber (check.Ours device) = 11
 checkNumber check.OpcodeAndType = 12
-checkNumber (check.Length right) = 13
+checkNumber (check.Length long shortest) = 13
 checkNumber (check.Program highest) = 14
 checkNumber (check.Version right) = 15
 checkNumber (check.HalfBytes highest) = 16

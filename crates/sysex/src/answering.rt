@@ -5,10 +5,13 @@ ghost use Prim.Native.Nat.{_≤_, _+_, _*_};
 ghost use lib.ListN.{length};
 ghost use Rattle.ground.specs.Lists.{written};
 ghost use Rattle.halves.specs.HalfBytes.{split};
+ghost use Rattle.kinds.specs.Kinds.{sizeOf};
+ghost use Rattle.programs.specs.Spares.{withoutSpares};
 ghost use Rattle.sysex.specs.Forms.{dumpStart, identityReply, ended};
 use crate::Settings;
 use crate::bytes;
 use crate::judging;
+use crate::short;
 use kinds::Kind;
 
 // The identity reply is 17 bytes.
@@ -65,6 +68,27 @@ pub(crate) fn send(typed: u8, pp: &[u8], part: &[u8], kind: Kind, reply: &mut [u
     let place = begin(typed, pp, kind, reply);
     let end = place + 2 * part.len();
     halves::split_into(part, &mut reply[place..end]);
+    bytes::write(&[0xF7], reply, end);
+    end + 1
+}
+
+// A dump of some programs without their spare bytes. Returns its length.
+pub(crate) fn send_short(
+    typed: u8,
+    pp: &[u8],
+    part: &[u8],
+    slots: usize,
+    kind: Kind,
+    reply: &mut [u8],
+) -> usize
+    requires { ⌜ (length (now pp) ≤ 1) × (length (now part) ≡ slots * sizeOf kind) ⌝ }
+    requires { ⌜ 2 * length (now part) + (9 + length (now pp)) ≤ length (now reply) ⌝ }
+    ensures { λ r. ⌜ r ≡ length (ended (dumpStart kind typed (now (pp .entry)) ++ split (withoutSpares (sizeOf kind) slots (now (part .entry))))) ⌝ }
+    ensures { λ _. ⌜ now (reply .exit) ≡ written (ended (dumpStart kind typed (now (pp .entry)) ++ split (withoutSpares (sizeOf kind) slots (now (part .entry))))) (now (reply .entry)) ⌝ }
+{
+    let size = kinds::size(kind) as usize;
+    let place = begin(typed, pp, kind, reply);
+    let end = short::split_short(part, slots, size, place, reply);
     bytes::write(&[0xF7], reply, end);
     end + 1
 }

@@ -1,21 +1,21 @@
 // What an order does to what the box holds and to the reply buffer.
 ghost use mathlib.Core.Path.{_≡_};
-ghost use mathlib.Core.List.{List};
-ghost use Prim.Native.Nat.{ℕ, _≤_, _+_, _*_};
-ghost use lib.ListN.{length, drop};
+ghost use Prim.Native.Nat.{_≤_, _+_, _*_};
+ghost use lib.ListN.{length};
 ghost use Rattle.ground.specs.Calls.{left, leaves};
-ghost use Rattle.halves.specs.HalfBytes.{join};
-ghost use Rattle.programs.specs.Memory.{programCount, memorySize, putPart};
+ghost use Rattle.kinds.specs.Kinds.{sizeOf};
+ghost use Rattle.programs.specs.Memory.{programCount, markCount};
 ghost use Rattle.programs.specs.Held.{heldOf};
-ghost use Rattle.sysex.specs.Forms.{dataPlace, longest};
+ghost use Rattle.sysex.specs.Forms.{longest};
 ghost use Rattle.sysex.specs.Carrying.{orderDoes, carryOf};
-ghost use Rattle.sysex.specs.Private.{HasData, Fits, partSent};
+ghost use Rattle.sysex.specs.Private.{Holds, HasData, Fits, slotsLong, slotsSent, slotsMarked, slotsStored};
 use crate::Answer;
 use crate::Order;
 use crate::Settings;
 use crate::answering;
 use crate::judging;
 use crate::numbers;
+use crate::short;
 use kinds::Kind;
 use programs::MARKS;
 use programs::PROGRAMS;
@@ -55,65 +55,112 @@ fn act(
     marks: &mut [u8],
     reply: &mut [u8],
 ) -> Answer
-    requires { ⌜ (memorySize kind ≤ length (now memory)) × (longest kind ≤ length (now reply)) ⌝ }
+    requires { ⌜ Holds kind (now memory) (now marks) × (longest kind ≤ length (now reply)) ⌝ }
     requires { ⌜ Fits kind order (now body) ⌝ }
     ensures { λ r. ⌜ left r (heldOf (now (memory .exit)) (now (marks .exit))) (now (reply .exit)) ≡ leaves (orderDoes kind settings player order (now (body .entry)) (heldOf (now (memory .entry)) (now (marks .entry)))) (now (reply .entry)) ⌝ }
 {
-    let edit = programs::edit_place(kind, player);
-    let size = kinds::size(kind) as usize;
+    let edit = programs::edit_slot(player);
     match order {
         Order::Identify(cc) => {
             answering::identify(cc, kind, settings, reply);
             Answer::Sent(17)
         }
-        Order::SendProgram(p) => {
-            answer(
-                judging::PROGRAM,
-                &[p],
-                p as usize * size,
-                size,
-                kind,
-                memory,
-                reply,
-            )
+        Order::SendProgram(p) => answer(
+            judging::PROGRAM,
+            &[p],
+            p as usize,
+            1,
+            kind,
+            memory,
+            marks,
+            reply,
+        ),
+        Order::SendEdit => answer(judging::EDIT, &[], edit, 1, kind, memory, marks, reply),
+        Order::SendAll => answer(judging::ALL, &[], 0, PROGRAMS, kind, memory, marks, reply),
+        Order::StoreProgram(p) => {
+            store(judging::PROGRAM, p as usize, 1, body, kind, memory, marks)
         }
-        Order::SendEdit => answer(judging::EDIT, &[], edit, size, kind, memory, reply),
-        Order::SendAll => answer(judging::ALL, &[], 0, PROGRAMS * size, kind, memory, reply),
-        Order::StoreProgram(p) => store(judging::PROGRAM, p as usize * size, size, body, memory),
-        Order::StoreEdit => store(judging::EDIT, edit, size, body, memory),
-        Order::StoreAll => store(judging::ALL, 0, PROGRAMS * size, body, memory),
+        Order::StoreEdit => store(judging::EDIT, edit, 1, body, kind, memory, marks),
+        Order::StoreAll => store(judging::ALL, 0, PROGRAMS, body, kind, memory, marks),
         Order::Refused(check) => numbers::refused(numbers::check_number(check)),
     }
 }
 
-// Answers a request by the dump of a part of memory.
+// Answers a request by the dump of some slots of memory, in the length that their marks say.
 fn answer(
     typed: u8,
     pp: &[u8],
-    place: usize,
-    count: usize,
+    slot: usize,
+    slots: usize,
     kind: Kind,
     memory: &[u8],
+    marks: &[u8],
     reply: &mut [u8],
 ) -> Answer
-    requires { ⌜ (length (now pp) ≤ 1) × (count ≤ programCount * 255) ⌝ }
-    requires { ⌜ place + count ≤ length (now memory) ⌝ }
-    requires { ⌜ 2 * count + (9 + length (now pp)) ≤ length (now reply) ⌝ }
-    ensures { λ r. ⌜ ((marks : List ℕ) → left r (heldOf (now (memory .entry)) marks) (now (reply .exit)) ≡ partSent kind typed (now (pp .entry)) place count (now (memory .entry)) marks (now (reply .entry))) ⌝ }
+    requires { ⌜ (length (now pp) ≤ 1) × (slot + slots ≤ markCount) × (slots ≤ programCount) ⌝ }
+    requires { ⌜ Holds kind (now memory) (now marks) ⌝ }
+    requires { ⌜ 2 * (slots * sizeOf kind) + (9 + length (now pp)) ≤ length (now reply) ⌝ }
+    ensures { λ r. ⌜ left r (heldOf (now (memory .entry)) (now (marks .entry))) (now (reply .exit)) ≡ slotsSent kind typed (now (pp .entry)) slot slots (heldOf (now (memory .entry)) (now (marks .entry))) (now (reply .entry)) ⌝ }
 {
-    let end = place + count;
-    let length = answering::send(typed, pp, &memory[place..end], kind, reply);
+    let size = kinds::size(kind) as usize;
+    let place = slot * size;
+    let end = place + slots * size;
+    if goes_long(slot, slots, kind, marks) {
+        let length = answering::send(typed, pp, &memory[place..end], kind, reply);
+        return Answer::Sent(length as u16);
+    }
+    let length = answering::send_short(typed, pp, &memory[place..end], slots, kind, reply);
     Answer::Sent(length as u16)
 }
 
-// Stores the bytes of a dump's data in a part of memory.
-fn store(typed: u8, place: usize, count: usize, body: &[u8], memory: &mut [u8]) -> Answer
-    requires { ⌜ HasData typed count (now body) ⌝ }
-    requires { ⌜ place + count ≤ length (now memory) ⌝ }
-    ensures { λ r. ⌜ (r ≡ Answer.Stored) × (now (memory .exit) ≡ putPart place count (join (drop (dataPlace typed) (now (body .entry)))) (now (memory .entry))) ⌝ }
+// Whether the dump of some slots goes out long: where their marks are set, or the kind has no spare bytes.
+fn goes_long(slot: usize, slots: usize, kind: Kind, marks: &[u8]) -> bool
+    requires { ⌜ slot + slots ≤ length (now marks) ⌝ }
+    ensures { λ r. ⌜ r ≡ slotsLong kind slot slots (now (marks .entry)) ⌝ }
 {
+    if kinds::has_spare(kind) {
+        let end = slot + slots;
+        return short::all_set(&marks[slot..end]);
+    }
+    true
+}
+
+// Stores the bytes of a dump's data in some slots of memory, and whether the spare bytes were among them.
+fn store(
+    typed: u8,
+    slot: usize,
+    slots: usize,
+    body: &[u8],
+    kind: Kind,
+    memory: &mut [u8],
+    marks: &mut [u8],
+) -> Answer
+    requires { ⌜ (slot + slots ≤ markCount) × (slots ≤ programCount) × HasData kind typed slots (now body) ⌝ }
+    requires { ⌜ Holds kind (now memory) (now marks) ⌝ }
+    ensures { λ r. ⌜ (r ≡ Answer.Stored) × (heldOf (now (memory .exit)) (now (marks .exit)) ≡ slotsStored kind typed slot slots (now (body .entry)) (heldOf (now (memory .entry)) (now (marks .entry)))) ⌝ }
+{
+    let size = kinds::size(kind) as usize;
     let from = judging::version_place(typed) + 1;
-    let end = place + count;
-    halves::join_into(&body[from..], &mut memory[place..end]);
+    let place = slot * size;
+    let count = slots * size;
+    if body.len() == from + 2 * count {
+        let end = place + count;
+        halves::join_into(&body[from..], &mut memory[place..end]);
+        mark(slot, slots, 1, kind, marks);
+        return Answer::Stored;
+    }
+    short::join_short(&body[from..], slots, size, place, memory);
+    mark(slot, slots, 0, kind, marks);
     Answer::Stored
+}
+
+// Marks some slots, where the kind has spare bytes.
+fn mark(slot: usize, slots: usize, mark: u8, kind: Kind, marks: &mut [u8])
+    requires { ⌜ slot + slots ≤ length (now marks) ⌝ }
+    ensures { λ _. ⌜ now (marks .exit) ≡ slotsMarked kind slot slots mark (now (marks .entry)) ⌝ }
+{
+    if kinds::has_spare(kind) {
+        short::set_marks(marks, slot, slots, mark);
+        return;
+    }
 }

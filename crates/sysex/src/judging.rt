@@ -1,9 +1,12 @@
 // The tests of a body, in their order.
 ghost use mathlib.Core.Path.{_≡_};
+ghost use mathlib.Core.Bool.{true, false, _||_};
 ghost use Prim.Native.Nat.{_≤_, _+_, _*_};
+ghost use lib.Dec.{eqb};
 ghost use lib.ListN.{length};
 ghost use Rattle.programs.specs.Memory.{programCount};
-ghost use Rattle.sysex.specs.Forms.{programOf, versionPlace, dataPlace, dataCount, bodyLength, longest, isIdentity, isOurChannel};
+ghost use Rattle.programs.specs.Held.{sentSize};
+ghost use Rattle.sysex.specs.Forms.{programOf, versionPlace, dataPlace, dataCount, bodyLength, shortest, longest, isIdentity, isOurChannel};
 ghost use Rattle.sysex.specs.Judging.{judgedBy, identityTests, formTests, fieldTests, dataTests, hasProgram, orderOf, formOrder, judgeOf};
 use crate::Check;
 use crate::Order;
@@ -93,36 +96,56 @@ fn form_judged(body: &[u8], kind: Kind) -> Order
     if ALL < typed {
         return Order::Refused(Check::OpcodeAndType);
     }
-    let length = body_length(kind, opcode, typed);
-    if body.len() != length {
-        return Order::Refused(Check::Length(length as u16 + 1));
+    let length = body_length(kind, true, opcode, typed);
+    let shortest = shortest_length(kind, opcode, typed);
+    if is_either(body.len(), length, shortest) {
+        return fields_judged(body, kind, opcode, typed);
     }
-    fields_judged(body, kind, opcode, typed)
+    Order::Refused(Check::Length(length as u16 + 1, shortest as u16 + 1))
 }
 
-// The length of a body of this opcode and type.
-fn body_length(kind: Kind, opcode: u8, typed: u8) -> usize
-    ensures { λ r. ⌜ (r ≡ bodyLength kind opcode typed) × (r ≤ 9 + 2 * (programCount * 255)) ⌝ }
+fn is_either(count: usize, length: usize, other: usize) -> bool
+    ensures { λ r. ⌜ r ≡ (eqb count length || eqb count other) ⌝ }
+{
+    if count == length {
+        return true;
+    }
+    count == other
+}
+
+// The length of the shortest body of this opcode and type.
+fn shortest_length(kind: Kind, opcode: u8, typed: u8) -> usize
+    ensures { λ r. ⌜ (r ≡ bodyLength kind (shortest kind) opcode typed) × (r ≤ 9 + 2 * (programCount * 255)) ⌝ }
+{
+    if kinds::has_spare(kind) {
+        return body_length(kind, false, opcode, typed);
+    }
+    body_length(kind, true, opcode, typed)
+}
+
+// The length of a body of this opcode and type, of a dump that is long or short.
+fn body_length(kind: Kind, long: bool, opcode: u8, typed: u8) -> usize
+    ensures { λ r. ⌜ (r ≡ bodyLength kind long opcode typed) × (r ≤ 9 + 2 * (programCount * 255)) ⌝ }
 {
     let version = version_place(typed);
     if opcode == REQUEST {
         return version;
     }
-    version + 1 + data_count(kind, typed)
+    version + 1 + data_count(kind, long, typed)
 }
 
-// The whole length of the longest message: an all programs dump.
+// The whole length of the longest message: a long all programs dump.
 pub fn longest(kind: Kind) -> usize
     ensures { λ r. ⌜ r ≡ longest kind ⌝ }
 {
-    version_place(ALL) + 1 + data_count(kind, ALL) + 1
+    version_place(ALL) + 1 + data_count(kind, true, ALL) + 1
 }
 
 // How many half bytes a dump has.
-fn data_count(kind: Kind, typed: u8) -> usize
-    ensures { λ r. ⌜ (r ≡ dataCount kind typed) × (r ≤ 2 * (programCount * 255)) ⌝ }
+fn data_count(kind: Kind, long: bool, typed: u8) -> usize
+    ensures { λ r. ⌜ (r ≡ dataCount kind long typed) × (r ≤ 2 * (programCount * 255)) ⌝ }
 {
-    let size = kinds::size(kind) as usize;
+    let size = sent_size(kind, long);
     if typed == ALL {
         2 * (PROGRAMS * size)
     } else {
@@ -130,8 +153,19 @@ fn data_count(kind: Kind, typed: u8) -> usize
     }
 }
 
+// How many bytes of a program a dump has: all, or all but the spare one.
+fn sent_size(kind: Kind, long: bool) -> usize
+    ensures { λ r. ⌜ (r ≡ sentSize kind long) × (r ≤ 255) ⌝ }
+{
+    let size = kinds::size(kind) as usize;
+    if long {
+        return size;
+    }
+    size - 1
+}
+
 fn fields_judged(body: &[u8], kind: Kind, opcode: u8, typed: u8) -> Order
-    requires { ⌜ length (now body) ≡ bodyLength kind opcode typed ⌝ }
+    requires { ⌜ bodyLength kind false opcode typed ≤ length (now body) ⌝ }
     ensures { λ r. ⌜ r ≡ judgedBy (fieldTests opcode typed (now (body .entry))) (orderOf opcode typed (programOf (now (body .entry)))) ⌝ }
 {
     let number = bytes::byte_at(body, 7);

@@ -31,8 +31,8 @@ pub enum Check {
     // The device byte of the header.
     Ours(u8),
     OpcodeAndType,
-    // The whole length for this opcode and type.
-    Length(u16),
+    // The whole length for this opcode and type, and that of the shortest dump: another where programs have a spare byte.
+    Length(u16, u16),
     // The highest program.
     Program(u8),
     Version(u8),

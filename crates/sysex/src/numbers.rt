@@ -48,7 +48,7 @@ pub(crate) fn check_number(check: Check) -> u8
         Check::TooLong(_) => 10,
         Check::Ours(_) => 11,
         Check::OpcodeAndType => 12,
-        Check::Length(_) => 13,
+        Check::Length(_, _) => 13,
         Check::Program(_) => 14,
         Check::Version(_) => 15,
         Check::HalfBytes(_) => 16,

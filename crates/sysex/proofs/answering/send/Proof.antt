@@ -1,10 +1,10 @@
 -- What comes before the data, the data, the last byte.
 use denote.Ref.{now}
-use mathlib.Core.Path.{refl}
+use Prim.Native.Nat.{_*_}
 use native.Mathlib.Omega.{arith}
-use lib.ListN.{length-take, length-drop}
+use lib.ListN.{length, length-take, length-drop}
 use Rattle.halves.proofs.Laws.{split-leaves}
-use Rattle.sysex.proofs.Writing.{dump-length, dumped}
+use Rattle.sysex.proofs.Writing.{dump-length, dumped, lent-put}
 use borrow.Author.Needs.{needs}
 use Rattle.sysex.proofs.answering.send.Statement.{statement}
 use Rattle.sysex.proofs.answering.send.Tie as tie
@@ -13,10 +13,9 @@ returns : tie.Need-returns
 returns c =
     let a = c .before .before .before .before .before .before .before .before .before .before .before .before .before .before .before .before .args in
     let b = c .before .before .before .before .before .before .before .before .before .before .before .begin in
-    let s = c .before .before .before .before .before .before .before .split-into in
-    let halves = split-leaves (now (a .part)) _ _ _ (s .ensures) (simp (length-take, length-drop) (omega arith)) in (
+    let halves = split-leaves (now (a .part)) _ _ _ (c .before .before .before .before .before .before .before .split-into .ensures) (simp (length-take, length-drop) (omega arith)) in (
       omega (arith, dump-length (a .kind) (a .typed) (now (a .pp)) (now (a .part))),
-      dumped (a .kind) (a .typed) (now (a .pp)) (now (a .part)) (b .result) _ (now (a .reply)) _ _ _ (b .ensures .0) (b .ensures .1) halves refl (c .before .before .write .ensures),
+      dumped (a .kind) (a .typed) (now (a .pp)) (now (a .part)) (b .result) (now (a .reply)) _ _ _ (b .ensures .0) (b .ensures .1) (lent-put (b .result) (2 * length (now (a .part))) _ _ _ halves) (c .before .before .write .ensures),
     )
 
 pub send-spec : {M : Type 1} → statement M
