@@ -1,6 +1,6 @@
 -- The judge accepts every dump, every request and every identity request that is ours, as its format says.
 use Prim.Native.Nat.{ℕ, suc, _+_, _*_, _≤_}
-use mathlib.Core.Bool.{Bool, true, false, _&&_}
+use mathlib.Core.Bool.{Bool, true, false, _&&_, _||_}
 use mathlib.Core.List.{List, _∷_}
 use mathlib.Core.Path.{_≡_, refl}
 use native.Mathlib.Omega.{arith}
@@ -12,12 +12,16 @@ use Rattle.halves.proofs.Laws.{length-split, split-halves}
 use Rattle.sysex.specs.declared.Settings.{Settings}
 use Rattle.sysex.specs.declared.Order.the-variants.{Identify}
 use Rattle.kinds.specs.declared.Kind.{Kind}
-use Rattle.kinds.specs.Kinds.{sizeOf, deviceOf}
-use Rattle.programs.specs.Memory.{lastProgram, allSize}
-use Rattle.programs.specs.Held.{Target, One, Edit, All, countFor}
-use Rattle.sysex.specs.Forms.{requestBody, dumpBody, identityBody, bodyLength, isIdentity, isOurChannel}
+use Rattle.kinds.specs.Kinds.{hasSpare, deviceOf}
+use Rattle.programs.specs.Memory.{programCount, lastProgram}
+use Rattle.programs.specs.Held.{Target, One, Edit, All, sentSize, sentFor}
+use Rattle.sysex.specs.Forms.{requestBody, dumpBody, identityBody, bodyLength, shortest, isIdentity, isOurChannel}
 use Rattle.sysex.specs.Judging.{hasForm, hasProgram, furtherTests, orderOf, bodyOrder, judgeOf}
 use Rattle.sysex.specs.Formats.{There, sendOrder, storeOrder}
+
+or-true : (a : Bool) → (a || true) ≡ true
+or-true true = refl
+or-true false = refl
 
 and-false : (a : Bool) → (a && false) ≡ false
 and-false true = refl
@@ -38,8 +42,16 @@ module _ (kind : Kind) (settings : Settings) where
   request-judged Edit h = rw (no-identity (drop 2 (requestBody kind Edit)), same)
   request-judged All h = rw (no-identity (drop 2 (requestBody kind All)), same)
 
-  module _ (bytes : List ℕ) (low : allAtMost 0xFF bytes ≡ true) where
-    pub dump-judged : (t : Target) → There t → length bytes ≡ countFor kind t → judgeOf kind settings (dumpBody kind t bytes) ≡ storeOrder t
+  module _ (bytes : List ℕ) (low : allAtMost 0xFF bytes ≡ true) (long : Bool) (spare : long ≡ false → hasSpare kind ≡ true) where
+    -- "13 is for a length that is neither"
+    length-right : (counts : Bool → ℕ) (n : ℕ) → n ≡ counts long → (eqb n (counts true) || eqb n (counts (shortest kind))) ≡ true
+    length-right counts n e = go long spare e
+      where
+        go : (b : Bool) → (b ≡ false → hasSpare kind ≡ true) → n ≡ counts b → (eqb n (counts true) || eqb n (counts (shortest kind))) ≡ true
+        go true s e = rw (eq-eqb n (counts true) e)
+        go false s e = rw (s refl, eq-eqb n (counts false) e) (or-true (eqb n (counts true)))
+
+    pub dump-judged : (t : Target) → There t → length bytes ≡ sentFor kind long t → judgeOf kind settings (dumpBody kind t bytes) ≡ storeOrder t
     unfolding judgeOf hasForm furtherTests bodyLength hasProgram bodyOrder orderOf
     dump-judged (One p) h e =
         let l = length-split bytes in
@@ -47,7 +59,7 @@ module _ (kind : Kind) (settings : Settings) where
           no-identity (drop 2 (dumpBody kind (One p) bytes)),
           same,
           le-leb 7 (length (dumpBody kind (One p) bytes)) (omega arith),
-          eq-eqb (length (dumpBody kind (One p) bytes)) (9 + 2 * sizeOf kind) (omega arith),
+          length-right (λ b. 9 + 2 * sentSize kind b) (length (dumpBody kind (One p) bytes)) (omega arith),
           le-leb p lastProgram h,
           split-halves bytes low,
         )
@@ -57,7 +69,7 @@ module _ (kind : Kind) (settings : Settings) where
           no-identity (drop 2 (dumpBody kind Edit bytes)),
           same,
           le-leb 7 (length (dumpBody kind Edit bytes)) (omega arith),
-          eq-eqb (length (dumpBody kind Edit bytes)) (8 + 2 * sizeOf kind) (omega arith),
+          length-right (λ b. 8 + 2 * sentSize kind b) (length (dumpBody kind Edit bytes)) (omega arith),
           split-halves bytes low,
         )
     dump-judged All h e =
@@ -66,7 +78,7 @@ module _ (kind : Kind) (settings : Settings) where
           no-identity (drop 2 (dumpBody kind All bytes)),
           same,
           le-leb 7 (length (dumpBody kind All bytes)) (omega arith),
-          eq-eqb (length (dumpBody kind All bytes)) (8 + 2 * allSize kind) (omega arith),
+          length-right (λ b. 8 + 2 * (programCount * sentSize kind b)) (length (dumpBody kind All bytes)) (omega arith),
           split-halves bytes low,
         )
 

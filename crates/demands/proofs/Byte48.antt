@@ -11,7 +11,7 @@ use borrow.Author.Tests.{le-leb, lt-ltb, lt-leb, ne-eqb, eqb-true}
 use Rattle.ground.specs.Calls.{outcome}
 use Rattle.kinds.specs.declared.Kind.the-variants.{Pod}
 use Rattle.kinds.specs.Kinds.{isKind, kindOf, numberOf, sizeOf}
-use Rattle.programs.specs.Memory.{memorySize, editPlace}
+use Rattle.programs.specs.Memory.{memorySize, markCount, editPlace}
 use Rattle.programs.specs.Held.{Held, heldOf, Edit, bytesIn}
 use Rattle.programs.proofs.Parts.{put-same, edit-length}
 use Rattle.controls.specs.Meaning.{Flanger, RotaryMove}
@@ -28,7 +28,7 @@ use Rattle.sysex.specs.declared.Settings.{Settings}
 use Rattle.sysex.specs.Forms.{longest}
 use Rattle.sysex.specs.Numbers.{refused}
 use Rattle.sysex.specs.Carrying.{refusing}
-use Rattle.podbox.specs.Settings.{isValid}
+use Rattle.podbox.specs.Settings.{isValid, areMarks}
 use Rattle.podbox.specs.Messages.{isHeard, isController, channelDoes, messageDoes}
 use Rattle.podbox.specs.Box.{limit, takeOf}
 use Rattle.podbox.proofs.Taking.{sender}
@@ -48,7 +48,7 @@ module _ (settings : Settings) (status : ℕ) (heard : isHeard settings status �
       let long = edit-length Pod player held m in
       let at : getD edit 46 0 ≡ selector player held = getD-take (sizeOf Pod) (drop place (held .memory)) 46 0 (has-46 Pod) ∙ getD-drop place (held .memory) 46 0 in
       rw (heard, is-controller, rotary-under-flanger controller value edit rotary h (omega arith) (rw at f))
-      (ap (λ (memory : List ℕ). outcome (refused 19) (heldOf memory) []) (put-same place (sizeOf Pod) (held .memory)))
+      (ap (λ (memory : List ℕ). outcome (refused 19) (heldOf memory (held .marks)) []) (put-same place (sizeOf Pod) (held .memory)))
 
   upper : status / 16 ≡ 0xB
   unfolding isController
@@ -62,13 +62,13 @@ module _ (settings : Settings) (status : ℕ) (heard : isHeard settings status �
   data-byte = ⊎-elim (λ e. omega arith) (λ m. ⊎-elim (λ e. omega arith) (λ e. omega arith) m) rotary
 
   -- the last byte of the move, on either socket, whatever stands in the buffers: 19, and all else is as it was
-  pub rotary-on-socket : (receive reply : List ℕ) → isValid settings ≡ true → player ≤ 1 → longest Pod ≤ length receive → longest Pod ≤ length reply
+  pub rotary-on-socket : (receive reply : List ℕ) → isValid settings ≡ true → markCount ≤ length (held .marks) → areMarks (held .marks) ≡ true → player ≤ 1 → longest Pod ≤ length receive → longest Pod ≤ length reply
       → takeOf (numberOf Pod) settings player (holdingOf status controller) value held receive reply ≡ took (underOf status) (refused 19) held receive reply
   unfolding stepDoes stepOf isKind kindOf numberOf
-  rotary-on-socket receive reply v s x r =
+  rotary-on-socket receive reply v k marked s x r =
       let is-sound = stands-sound (limit Pod) (holding {s = status} {d = controller} (omega (arith, upper)) (omega (arith, upper)) takes-two data-byte) in
       take-passed (numberOf Pod) settings player (holdingOf status controller) value held receive reply
-      (refl, (le-leb _ _ m, (le-leb _ _ x, (le-leb _ _ r, (le-leb player 1 s, (is-sound, (v, tt)))))))
+      (refl, (le-leb _ _ m, (le-leb _ _ k, (le-leb _ _ x, (le-leb _ _ r, (le-leb player 1 s, (is-sound, (v, (marked, tt)))))))))
       ∙ (rw (
         lt-leb 0xF8 value (omega arith),
         lt-ltb value 0x80 (omega arith),

@@ -11,7 +11,7 @@ use Rattle.ground.proofs.InOrder.{tested-cases}
 use Rattle.kinds.specs.declared.Kind.{Kind}
 use Rattle.kinds.specs.Kinds.{sizeOf}
 use Rattle.programs.specs.Memory.{memorySize, programPlace, editPlace}
-use Rattle.programs.specs.Held.{Held, Edit, bytesIn, storeIn}
+use Rattle.programs.specs.Held.{Held, Edit, bytesIn, putIn}
 use Rattle.programs.proofs.Parts.{part-put, part-before, put-before, put-behind, put-length, edit-length}
 use Rattle.controls.specs.Table.{rowOf}
 use Rattle.controls.specs.Applying.{Changed, storeRow}
@@ -25,21 +25,22 @@ use Rattle.podbox.specs.Messages.{isController, channelTests, changeAnswer, con
 use Rattle.demands.specs.EditAlone.{EditAlone, Moved}
 
 pub alone-same : (kind : Kind) (player : ℕ) (held : Held) → EditAlone kind player held held
-alone-same kind player held = record { programs-stay = λ _ _. refl; else-stays = λ _ _. refl; length-stays = refl }
+alone-same kind player held = record { programs-stay = λ _ _. refl; else-stays = λ _ _. refl; length-stays = refl; marks-stay = refl }
 
 pub alone-more : (kind : Kind) (player : ℕ) (a b c : Held) → EditAlone kind player a b → EditAlone kind player b c → EditAlone kind player a c
 alone-more kind player a b c e f = record {
   programs-stay = λ p h. f .programs-stay p h ∙ e .programs-stay p h;
   else-stays = λ k h. f .else-stays k h ∙ e .else-stays k h;
   length-stays = f .length-stays ∙ e .length-stays;
+  marks-stay = f .marks-stay ∙ e .marks-stay;
 }
 
 module _ (kind : Kind) (player : ℕ) (held : Held) (m : memorySize kind ≤ length (held .memory)) where
   module _ (bytes : List ℕ) (e : length bytes ≡ sizeOf kind) where
-    pub edit-put : bytesIn kind player Edit (storeIn kind player Edit bytes held) ≡ bytes
+    pub edit-put : bytesIn kind player Edit (putIn kind player Edit bytes held) ≡ bytes
     edit-put = part-put (editPlace kind player) (sizeOf kind) bytes (held .memory) (omega arith) e
 
-    pub edit-alone : EditAlone kind player held (storeIn kind player Edit bytes held)
+    pub edit-alone : EditAlone kind player held (putIn kind player Edit bytes held)
     edit-alone =
         let place = editPlace kind player in
         let size = sizeOf kind in
@@ -49,6 +50,7 @@ module _ (kind : Kind) (player : ℕ) (held : Held) (m : memorySize kind ≤ len
               part-before (programPlace kind p) size place (held .memory) (omega arith) (omega arith) size bytes;
           else-stays = λ k. ⊎-elim (put-before place size bytes (held .memory) (omega arith) e k) (put-behind place size bytes (held .memory) (omega arith) e k);
           length-stays = put-length place size bytes (held .memory) (omega arith) e;
+          marks-stay = refl;
         }
 
   controller-moves : (controller value : ℕ) → controllerDoes kind player controller value held .answer ≡ Applied
@@ -58,7 +60,7 @@ module _ (kind : Kind) (player : ℕ) (held : Held) (m : memorySize kind ≤ len
       let r = rowOf kind controller in
       let whole = edit-length kind player held m in
       let same : length (storeRow r value edit) ≡ sizeOf kind = store-length r value edit ∙ whole in
-      let Does : Changed → Outcome = λ l. outcome (changeAnswer (l .answer)) (storeIn kind player Edit (l .edit) held) [] in
+      let Does : Changed → Outcome = λ l. outcome (changeAnswer (l .answer)) (putIn kind player Edit (l .edit) held) [] in
       apply-cases kind controller value edit (λ (l : Changed). Does l .answer ≡ Applied → Moved kind player controller value held (Does l))
       (λ short. absurd (omega arith))
       (λ number lo hi e. let z : _≡_ {A = ℕ} 0 1 = cc in absurd (omega arith))

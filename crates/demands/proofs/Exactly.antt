@@ -1,6 +1,7 @@
 -- A SysEx is stored exactly when it is a dump, answered exactly when it is a request or an identity request that is ours: handed over whole, and
 -- finished on a socket.
-use Prim.Native.Nat.{ℕ}
+use Prim.Native.Nat.{ℕ, _+_, _*_}
+use mathlib.Core.Bool.{Bool}
 use mathlib.Core.List.{List, [], _∷_}
 use mathlib.Core.Logic.{_⊎_, inl, inr, ⊎-elim}
 use mathlib.Core.Path.{_≡_, refl, sym, ap, subst, _∙_}
@@ -26,9 +27,9 @@ use Rattle.sysex.specs.declared.Order.{Order}
 use Rattle.sysex.specs.declared.Answer.the-variants.{Stored, Sent}
 use Rattle.sysex.specs.Forms.{typeFor, dataPlace, longest, requestBody, dumpBody, identityReply, ended}
 use Rattle.sysex.specs.Judging.{judgeOf}
-use Rattle.sysex.specs.Carrying.{Outcome, refusing, orderDoes, bodyDoes, sending, answering}
+use Rattle.sysex.specs.Carrying.{Outcome, refusing, isLong, orderDoes, bodyDoes, sending, answering}
 use Rattle.sysex.specs.Formats.{IsDump, IsRequest, IsIdentity, Meant, identity, asked, dumped, unsaid}
-use Rattle.sysex.proofs.Understands.{meant}
+use Rattle.sysex.proofs.Understands.{meant, data-behind, is-long}
 use Rattle.podbox.specs.Messages.{messageDoes}
 use Rattle.podbox.specs.Whole.{isFramed, bodyOf, handedDoes}
 use Rattle.podbox.specs.Box.{limit, panel, takeTests, wholeTests, takeOf, wholeOf}
@@ -45,9 +46,16 @@ module _ (kind : Kind) (settings : Settings) (player : ℕ) (held : Held) where
   Does body = bodyDoes kind settings player body held
 
   -- every dump, request and identity request is carried out
-  dump-does : (t : Target) (bytes body : List ℕ) → IsDump kind t bytes body → Does body ≡ outcome Stored (storeIn kind player t bytes held) []
-  dump-does t bytes body d =
-      rw (d .form, dump-judged kind settings bytes (d .whole-bytes) t (d .there) (d .count), store-does kind settings player t (dumpBody kind t bytes) held, dump-data kind t bytes)
+  dump-does : (t : Target) (long : Bool) (bytes body : List ℕ) → IsDump kind t long bytes body → Does body ≡ outcome Stored (storeIn kind player t long bytes held) []
+  dump-does t long bytes body d =
+      let whole = data-behind kind settings body t bytes .0 ∙ ap (λ (n : ℕ). dataPlace (typeFor t) + 2 * n) (d .count) in
+      rw (
+        d .form,
+        dump-judged kind settings bytes (d .whole-bytes) long (d .spare) t (d .there) (d .count),
+        store-does kind settings player t (dumpBody kind t bytes) held,
+        dump-data kind t bytes,
+        is-long kind t long (dumpBody kind t bytes) whole,
+      )
 
   request-does : (t : Target) (body : List ℕ) → IsRequest kind t body → Does body ≡ answering kind player t held
   request-does t body q = rw (q .form, request-judged kind settings t (q .there)) (send-does kind settings player t (requestBody kind t) held)
@@ -58,11 +66,11 @@ module _ (kind : Kind) (settings : Settings) (player : ℕ) (held : Held) where
 
   -- and nothing else is
   stored-order : (body : List ℕ) (o : Order) → Meant kind settings body o → orderDoes kind settings player o body held .answer ≡ Stored
-      → (t : Target) × (bytes : List ℕ) × IsDump kind t bytes body
+      → (t : Target) × (long : Bool) × (bytes : List ℕ) × IsDump kind t long bytes body
   unfolding orderDoes
   stored-order body o (identity channel i) e = let z : _≡_ {A = ℕ} 0 1 = cc in absurd (omega arith)
   stored-order body o (asked t q) e = let f = rw (send-does kind settings player t body held) at e in let z : _≡_ {A = ℕ} 0 1 = cc in absurd (omega arith)
-  stored-order body o (dumped t d) e = (t, join (drop (dataPlace (typeFor t)) body), d)
+  stored-order body o (dumped t d) e = (t, isLong kind t body, join (drop (dataPlace (typeFor t)) body), d)
   stored-order body o (unsaid check) e = let z : _≡_ {A = ℕ} 0 1 = cc in absurd (omega arith)
 
   answered-order : (count : ℕ) (body : List ℕ) (o : Order) → Meant kind settings body o → orderDoes kind settings player o body held .answer ≡ Sent count
@@ -77,10 +85,10 @@ module _ (kind : Kind) (settings : Settings) (player : ℕ) (held : Held) where
   pub body-exactly : (body : List ℕ) → Exactly kind settings player held (λ b. b ≡ body) (bodyDoes kind settings player body held)
   body-exactly body = record {
     stored = (
-      (λ e. let d = stored-order body (judgeOf kind settings body) (meant kind settings body) e in (body, refl, d .0, d .1, d .2)),
-      (λ x. ap (λ (o : Outcome). o .answer) (ap Does (sym (x .1)) ∙ dump-does (x .2) (x .3) (x .0) (x .4))),
+      (λ e. let d = stored-order body (judgeOf kind settings body) (meant kind settings body) e in (body, refl, d .0, d .1, d .2, d .3)),
+      (λ x. ap (λ (o : Outcome). o .answer) (ap Does (sym (x .1)) ∙ dump-does (x .2) (x .3) (x .4) (x .0) (x .5))),
     );
-    named = λ b e t bytes d. ap Does (sym e) ∙ dump-does t bytes b d;
+    named = λ b e t long bytes d. ap Does (sym e) ∙ dump-does t long bytes b d;
     answered = (
       (λ x. (body, refl, answered-order (x .0) body (judgeOf kind settings body) (meant kind settings body) (x .1))),
       (λ x. ⊎-elim
@@ -112,12 +120,12 @@ module _ (kind : Kind) (settings : Settings) (player : ℕ) (held : Held) where
       record {
         stored = (
           by-frame message
-              (λ (o : Outcome). o .answer ≡ Stored → (body : List ℕ) × (message ≡ ended body) × (t : Target) × (bytes : List ℕ) × IsDump kind t bytes body)
+              (λ (o : Outcome). o .answer ≡ Stored → (body : List ℕ) × (message ≡ ended body) × (t : Target) × (long : Bool) × (bytes : List ℕ) × IsDump kind t long bytes body)
               (λ number e. let z : _≡_ {A = ℕ} 0 1 = cc in absurd (omega arith))
-              (λ body f e. let x = body-exactly body .stored .0 e in (body, f, x .2, x .3, subst (λ (b : List ℕ). IsDump kind (x .2) (x .3) b) (x .1) (x .4))),
-          (λ x. ap (λ (o : Outcome). o .answer) (as-body (x .0) (x .1) (dump-opens kind (x .2) (x .3) (x .0) (x .4)) ∙ dump-does (x .2) (x .3) (x .0) (x .4))),
+              (λ body f e. let x = body-exactly body .stored .0 e in (body, f, x .2, x .3, x .4, subst (λ (b : List ℕ). IsDump kind (x .2) (x .3) (x .4) b) (x .1) (x .5))),
+          (λ x. ap (λ (o : Outcome). o .answer) (as-body (x .0) (x .1) (dump-opens kind (x .2) (x .3) (x .4) (x .0) (x .5)) ∙ dump-does (x .2) (x .3) (x .4) (x .0) (x .5))),
         );
-        named = λ body e t bytes d. as-body body e (dump-opens kind t bytes body d) ∙ dump-does t bytes body d;
+        named = λ body e t long bytes d. as-body body e (dump-opens kind t long bytes body d) ∙ dump-does t long bytes body d;
         answered = (
           (λ x. by-frame message
               (λ (o : Outcome). o .answer ≡ Sent (x .0) → (body : List ℕ) × (message ≡ ended body) × (((t : Target) × IsRequest kind t body) ⊎ ((cc : ℕ) × IsIdentity settings cc body)))
@@ -145,6 +153,6 @@ pub byte-call : (kindNumber : ℕ) (settings : Settings) (socket : ℕ) (r : Rec
     × Exactly (kindOf kindNumber) settings socket held (λ body. body ≡ take count receive) o)
 unfolding stepDoes messageDoes
 byte-call kindNumber settings socket r byte held receive reply count all e = (
-  take-passed kindNumber settings socket r byte held receive reply all ∙ (rw (e, sender socket (leb-true socket 1 (all .1 .1 .1 .1 .0)))),
+  take-passed kindNumber settings socket r byte held receive reply all ∙ (rw (e, sender socket (leb-true socket 1 (all .1 .1 .1 .1 .1 .0)))),
   body-exactly (kindOf kindNumber) settings socket held (take count receive),
 )

@@ -1,6 +1,6 @@
 -- What the forms of demand 2 do, by what they name: orders and bodies of dumps and requests, and the messages that have them.
 use Prim.Native.Nat.{ℕ, _+_, _≤_}
-use mathlib.Core.Bool.{true}
+use mathlib.Core.Bool.{Bool, true}
 use mathlib.Core.List.{List, [], _∷_}
 use mathlib.Core.Path.{_≡_, refl, ap}
 use native.Mathlib.Omega.{arith}
@@ -18,6 +18,7 @@ use Rattle.kinds.specs.Kinds.{sizeOf, deviceOf}
 use Rattle.kinds.proofs.AnyKind.{size-bounds, device-low}
 use Rattle.programs.specs.Memory.{memorySize}
 use Rattle.programs.specs.Held.{Held, Target, One, Edit, All, placeFor, countFor}
+use Rattle.programs.proofs.Slots.{sent-most}
 use Rattle.sysex.specs.declared.Settings.{Settings}
 use Rattle.sysex.specs.declared.Order.the-variants.{Refused}
 use Rattle.sysex.specs.Forms.{typeFor, dataPlace, longest, requestBody, dumpBody, ended}
@@ -68,18 +69,19 @@ pub record Opens (kind : Kind) (body : List ℕ) : Type 0 where
   pub low : allAtMost 0x7F (drop 1 body) ≡ true
   pub short : length body ≤ limit kind
 
-dump-short : (kind : Kind) (t : Target) (bytes : List ℕ) → length bytes ≡ countFor kind t → length (dumpBody kind t bytes) ≤ limit kind
+dump-short : (kind : Kind) (t : Target) (bytes : List ℕ) → length bytes ≤ countFor kind t → length (dumpBody kind t bytes) ≤ limit kind
 dump-short kind (One p) bytes e = omega (arith, length-split bytes, size-bounds kind .0)
 dump-short kind Edit bytes e = omega (arith, length-split bytes, size-bounds kind .0)
 dump-short kind All bytes e = omega (arith, length-split bytes, size-bounds kind .0)
 
 -- a dump's message is no longer than the longest
-pub dump-fits : (kind : Kind) (t : Target) (bytes : List ℕ) → length bytes ≡ countFor kind t → length (ended (dumpBody kind t bytes)) ≤ longest kind
+pub dump-fits : (kind : Kind) (t : Target) (bytes : List ℕ) → length bytes ≤ countFor kind t → length (ended (dumpBody kind t bytes)) ≤ longest kind
 dump-fits kind t bytes e = omega (arith, length-append (dumpBody kind t bytes) (0xF7 ∷ []), dump-short kind t bytes e)
 
-pub dump-opens : (kind : Kind) (t : Target) (bytes body : List ℕ) → IsDump kind t bytes body → Opens kind body
-dump-opens kind t bytes body d =
-    rw (d .form) (go t (d .there) (at-most-more 0x0F 0x7F (omega arith) (split bytes) (split-halves bytes (d .whole-bytes))) (dump-short kind t bytes (d .count)))
+pub dump-opens : (kind : Kind) (t : Target) (long : Bool) (bytes body : List ℕ) → IsDump kind t long bytes body → Opens kind body
+dump-opens kind t long bytes body d =
+    rw (d .form)
+    (go t (d .there) (at-most-more 0x0F 0x7F (omega arith) (split bytes) (split-halves bytes (d .whole-bytes))) (dump-short kind t bytes (omega (arith, d .count, sent-most kind long t))))
   where
     go : (t : Target) → There t → allAtMost 0x7F (split bytes) ≡ true → length (dumpBody kind t bytes) ≤ limit kind → Opens kind (dumpBody kind t bytes)
     go (One p) h low few = record { first = refl; low = rw (device kind, le-leb p 0x7F (omega arith)) low; short = few }

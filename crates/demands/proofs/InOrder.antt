@@ -14,7 +14,7 @@ use Rattle.ground.proofs.Tests.{by}
 use Rattle.ground.proofs.InOrder.{tested-map, tested-renamed, tested-append, tested-when, tested-failed, tested-exactly}
 use Rattle.kinds.specs.declared.Kind.{Kind}
 use Rattle.kinds.specs.Kinds.{kindOf, sizeOf}
-use Rattle.programs.specs.Memory.{memorySize}
+use Rattle.programs.specs.Memory.{memorySize, editPlace, partOf}
 use Rattle.programs.specs.Held.{Held, Edit, bytesIn}
 use Rattle.programs.proofs.Parts.{edit-length}
 use Rattle.controls.specs.Table.{rowOf}
@@ -45,7 +45,7 @@ use Rattle.sysex.specs.declared.Answer.the-variants as answer
 use Rattle.sysex.specs.declared.Check.{Check}
 use Rattle.sysex.specs.Numbers.{refused, answerNumber, checkNumber}
 use Rattle.sysex.specs.Judging.{testsOf, judgedBy, bodyOrder, judgeOf}
-use Rattle.sysex.specs.Carrying.{Outcome, Left, heldTest, refusing, orderDoes}
+use Rattle.sysex.specs.Carrying.{Outcome, Left, refusing, orderDoes, memoryTest}
 use Rattle.sysex.proofs.Numbered.{passed-done, done-not-refused}
 use Rattle.podbox.specs.declared.Move.{Move}
 use Rattle.podbox.specs.Settings.{isValid}
@@ -142,7 +142,7 @@ module _ (kindNumber : ℕ) (settings : Settings) (socket : ℕ) (r : Receiver) 
       let last = passed (kindOf kindNumber) settings socket held happening in
       tested-map (λ (l : Took). l .answer) ts (λ number. took r (plainAnswer number) held receive reply) _
       ∙ tested-when ts refused _ (tested (finishTests (kindOf kindNumber) settings socket held happening) refused last)
-      (λ all. effect-tested (leb-true _ _ (all .1 .0)) (sender socket (leb-true socket 1 (all .1 .1 .1 .1 .0))) happening)
+      (λ all. effect-tested (leb-true _ _ (all .1 .0)) (sender socket (leb-true socket 1 (all .1 .1 .1 .1 .1 .0))) happening)
       ∙ sym (tested-append ts (finishTests (kindOf kindNumber) settings socket held happening) refused last)
 
   pub byte-order : (number : ℕ) → (takeOf kindNumber settings socket r byte held receive reply .answer ≡ refused number) ↔ FirstToFail (byteTests kindNumber settings socket byte (lent r held receive reply)) number
@@ -213,14 +213,15 @@ shown-tested : (kind : Kind) (controller stored : ℕ)
     → (let x = shownOf (rowOf kind controller) stored in x ≡ tested (test 40 (isValue x) ∷ []) reading.Refused (reading.Value (valueOf x)))
 shown-tested kind controller stored = ⊎-elim (λ s. rw (s .1)) (λ s. rw (s .0)) (row-shown kind controller (formed kind controller) stored)
 
-pub showing-order : (kindNumber controller : ℕ) (held : Held) (number : ℕ) → (backCall kindNumber controller held ≡ reading.Refused number) ↔ FirstToFail (showingTests kindNumber controller held) number
+pub showing-order : (kindNumber controller : ℕ) (memory : List ℕ) (number : ℕ)
+    → (backCall kindNumber controller memory ≡ reading.Refused number) ↔ FirstToFail (showingTests kindNumber controller memory) number
 unfolding backCall memoryBack backOf
-showing-order kindNumber controller held number =
+showing-order kindNumber controller memory number =
     let kind = kindOf kindNumber in
     let r = rowOf kind controller in
-    let edit = bytesIn kind panel Edit held in
+    let edit = partOf (editPlace kind panel) (sizeOf kind) memory in
     let x = shownOf r (numberIn r edit) in
-    let front = kindTest kindNumber ∷ heldTest kind held ∷ backTests kind r edit in
-    reading-order (showingTests kindNumber controller held) _ (valueOf x) number
+    let front = kindTest kindNumber ∷ memoryTest kind (length memory) ∷ backTests kind r edit in
+    reading-order (showingTests kindNumber controller memory) _ (valueOf x) number
     (ap (tested front reading.Refused) (shown-tested kind controller (numberIn r edit))
     ∙ sym (tested-append front (test 40 (isValue x) ∷ []) reading.Refused (reading.Value (valueOf x))))

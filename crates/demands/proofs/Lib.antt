@@ -3,6 +3,7 @@ pub mod Accepts
 pub mod Forms
 pub mod Tells
 pub mod Carried
+pub mod Marks
 pub mod Exactly
 pub mod ComesBack
 pub mod InOrder

@@ -37,7 +37,7 @@ module _ (kindNumber : ℕ) (settings : Settings) (socket : ℕ) (r : Receiver) 
       let last = away 32 (omega arith) (omega arith) in
       tested-cases P (takeTests kindNumber settings socket (lent r held receive reply)) (λ number. took r (plainAnswer number) held receive reply) stepped when-stepped
       (λ number f. first-named Away f
-      ((λ _. last), (λ _. ((λ _. thirty), (λ _. ((λ _. thirty), (λ _. ((λ _. thirty), (λ _. ((λ _. away 31 (omega arith) (omega arith)), (λ _. ((λ _. last), (λ _. ((λ _. last), (λ _. tt)))))))))))))))
+      ((λ _. last), (λ _. ((λ _. thirty), (λ _. ((λ _. thirty), (λ _. ((λ _. thirty), (λ _. ((λ _. thirty), (λ _. ((λ _. away 31 (omega arith) (omega arith)), (λ _. ((λ _. last), (λ _. ((λ _. last), (λ _. ((λ _. last), (λ _. tt)))))))))))))))))))
 
 module _ (kindNumber : ℕ) (settings : Settings) (message : List ℕ) (held : Held) (reply : List ℕ) where
   pub whole-passed : AllHold (wholeTests kindNumber settings held reply) → wholeOf kindNumber settings message held reply ≡ leaves (handedDoes (kindOf kindNumber) settings panel message held) reply
@@ -50,7 +50,7 @@ module _ (kindNumber : ℕ) (settings : Settings) (message : List ℕ) (held : H
   whole-cases P short invalid when-stepped =
       let Away : ℕ → Type 0 = λ number. P (left (plainAnswer number) held reply) in
       tested-cases P (wholeTests kindNumber settings held reply) (λ number. left (plainAnswer number) held reply) (leaves (handedDoes (kindOf kindNumber) settings panel message held) reply) when-stepped
-      (λ number f. first-named Away f ((λ _. invalid), (λ _. ((λ _. short), (λ _. ((λ _. short), (λ _. ((λ _. invalid), (λ _. tt)))))))))
+      (λ number f. first-named Away f ((λ _. invalid), (λ _. ((λ _. short), (λ _. ((λ _. short), (λ _. ((λ _. short), (λ _. ((λ _. invalid), (λ _. ((λ _. invalid), (λ _. tt)))))))))))))
 
 module _ (kindNumber : ℕ) (settings : Settings) (moves : List Move) (held : Held) (numbers : List ℕ) where
   -- the list, carried out

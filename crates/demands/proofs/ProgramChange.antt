@@ -127,7 +127,7 @@ change-on-socket kindNumber bass settings socket status number held receive repl
             ne-eqb status 0 (λ e. omega arith),
             le-leb 0xC0 status (omega arith),
             le-leb status 0xDF (omega arith),
-            sender socket (leb-true socket 1 (all .1 .1 .1 .1 .0)),
+            sender socket (leb-true socket 1 (all .1 .1 .1 .1 .1 .0)),
             r .stored,
             r .none-sent,
           )),

@@ -5,25 +5,25 @@ use mathlib.Core.List.{List}
 use mathlib.Core.Path.{_≡_, refl, ap, _∙_}
 use native.Mathlib.Omega.{arith}
 use lib.Dec.{eqb, leb}
-use lib.ListN.{length, getD, length-take, length-replicate}
+use lib.ListN.{length, getD, replicate, length-take, length-replicate}
 use borrow.Author.Tests.{leb-true, leb-false, le-leb, eqb-true, eqb-false, eq-eqb}
 use Rattle.ground.specs.Tests.{FirstToFail}
 use Rattle.ground.specs.Calls.{leaves}
 use Rattle.ground.proofs.InOrder.{Names, first-named, tested-cases}
-use Rattle.ground.proofs.Tests.{both, by}
+use Rattle.ground.proofs.Tests.{both, neither, by}
 use Rattle.kinds.specs.declared.Kind.{Kind}
 use Rattle.kinds.specs.Kinds.{numberOf}
 use Rattle.kinds.proofs.AnyKind.{kind-numbered}
-use Rattle.programs.specs.Memory.{memorySize, lastProgram}
+use Rattle.programs.specs.Memory.{memorySize, markCount, lastProgram}
 use Rattle.programs.specs.Held.{Held}
 use Rattle.sysex.specs.declared.Check.{Check}
 use Rattle.sysex.specs.declared.Order.the-variants.{Refused}
-use Rattle.sysex.specs.Forms.{opcodeOf, typeOf, programOf, request, dump, program, all, bodyLength, wholeLength, longest, isIdentity, isOurChannel}
+use Rattle.sysex.specs.Forms.{opcodeOf, typeOf, programOf, request, dump, program, all, bodyLength, wholeLength, shortest, longest, isIdentity, isOurChannel}
 use Rattle.sysex.specs.Numbers.{answerNumber, orderNumber}
-use Rattle.sysex.specs.Judging.{hasLength, hasProgram, formTests, furtherTests, bodyOrder}
+use Rattle.sysex.specs.Judging.{hasProgram, formTests, furtherTests, bodyOrder}
 use Rattle.sysex.specs.Carrying.{Left, orderDoes}
 use Rattle.sysex.proofs.Numbered.{passed-done, does-number}
-use Rattle.podbox.specs.Settings.{isValid, freshSettings, freshHeld}
+use Rattle.podbox.specs.Settings.{isValid, areMarks, freshSettings, freshHeld}
 use Rattle.podbox.specs.Whole.{bodyOf, messageTests, messageOrder, reasonOf}
 use Rattle.podbox.specs.Box.{panel, wholeOf}
 use Rattle.demands.specs.Reasons.{Because, fails, passes, Missed, most, ours, known, whole, numbered, versioned, halved, channelled}
@@ -40,12 +40,16 @@ fresh-valid : isValid freshSettings ≡ true
 unfolding isValid freshSettings
 fresh-valid = refl
 
+fresh-marks : areMarks (replicate markCount 1) ≡ true
+unfolding areMarks
+fresh-marks = refl
+
 -- What is said is what is done: a box with these settings does what the reason names, whatever it holds.
-pub reason-done : (kind : Kind) (message : List ℕ) (held : Held) (reply : List ℕ) → memorySize kind ≤ length (held .memory) → longest kind ≤ length reply
+pub reason-done : (kind : Kind) (message : List ℕ) (held : Held) (reply : List ℕ) → memorySize kind ≤ length (held .memory) → markCount ≤ length (held .marks) → areMarks (held .marks) ≡ true → longest kind ≤ length reply
     → wholeOf (numberOf kind) freshSettings message held reply ≡ leaves (orderDoes kind freshSettings panel (reasonOf kind message) (bodyOf message) held) reply
-reason-done kind message held reply m r =
+reason-done kind message held reply m k marked r =
     let known = kind-numbered kind in
-    whole-passed (numberOf kind) freshSettings message held reply (known .0, (rw (known .1) (le-leb _ _ m), (rw (known .1) (le-leb _ _ r), (fresh-valid, tt))))
+    whole-passed (numberOf kind) freshSettings message held reply (known .0, (rw (known .1) (le-leb _ _ m), (le-leb _ _ k, (rw (known .1) (le-leb _ _ r), (fresh-valid, (marked, tt))))))
     ∙ ap (λ (k : Kind). leaves (orderDoes k freshSettings panel (reasonOf k message) (bodyOf message) held) reply) (known .1)
 
 -- "and a fresh box set as the listing program's, handed the message whole, returns that number"
@@ -54,7 +58,7 @@ pub reason-true : (kind : Kind) (message reply : List ℕ) → longest kind ≤ 
 unfolding freshHeld
 reason-true kind message reply r = (
   because kind message,
-  ap (λ (l : Left). answerNumber (l .answer)) (reason-done kind message (freshHeld kind) reply (omega (arith, length-replicate {A = ℕ} (memorySize kind) 0)) r)
+  ap (λ (l : Left). answerNumber (l .answer)) (reason-done kind message (freshHeld kind) reply (omega (arith, length-replicate {A = ℕ} (memorySize kind) 0)) (omega arith) fresh-marks r)
       ∙ does-number kind freshSettings panel (bodyOf message) (freshHeld kind) (reasonOf kind message),
 )
 
@@ -75,8 +79,9 @@ module _ (kind : Kind) (message : List ℕ) where
   abbrev body : List ℕ
   body = bodyOf message
 
-  whole-missed : hasLength kind body ≡ false → length message ≡ wholeLength kind (opcodeOf body) (typeOf body) → ⊥
-  whole-missed e l = eqb-false (length body) (bodyLength kind (opcodeOf body) (typeOf body)) e (omega (arith, length-take (length message - 1) message))
+  -- neither length, where one of the two tests would hold
+  whole-missed : (long : Bool) → eqb (length body) (bodyLength kind long (opcodeOf body) (typeOf body)) ≡ false → length message ≡ wholeLength kind long (opcodeOf body) (typeOf body) → ⊥
+  whole-missed long e l = eqb-false (length body) (bodyLength kind long (opcodeOf body) (typeOf body)) e (omega (arith, length-take (length message - 1) message))
 
   is-dump : opcodeOf body ≤ dump → eqb (opcodeOf body) request ≡ false → opcodeOf body ≡ dump
   is-dump small d = let some = eqb-false (opcodeOf body) request d in omega arith
@@ -88,7 +93,7 @@ module _ (kind : Kind) (message : List ℕ) where
         let fields = both (leb (opcodeOf body) dump) (leb (typeOf body) all) (both (leb 7 (length body)) (leb (opcodeOf body) dump && leb (typeOf body) all) k .1) in
         let opcode = leb-true (opcodeOf body) dump (fields .0) in
         let type = leb-true (typeOf body) all (fields .1) in (
-          (λ e. whole opcode type (whole-missed e)),
+          (λ e. let n = neither (eqb (length body) (bodyLength kind true (opcodeOf body) (typeOf body))) _ e in whole opcode type (whole-missed true (n .0)) (whole-missed (shortest kind) (n .1))),
           (λ _. (
             (λ e. let a = above (typeOf body) (programOf body) e in numbered opcode (a .0) (a .1)),
             (λ _. by (Names (Missed kind message)) (eqb (opcodeOf body) request) _ _ (λ _. tt)

@@ -11,7 +11,7 @@ use borrow.Author.Tests.{leb-true, le-leb, lt-leb}
 use Rattle.ground.specs.Tests.{AllHold}
 use Rattle.kinds.specs.declared.Kind.{Kind}
 use Rattle.kinds.specs.Kinds.{isKind, kindOf}
-use Rattle.programs.specs.Memory.{memorySize}
+use Rattle.programs.specs.Memory.{memorySize, markCount}
 use Rattle.programs.specs.Held.{Held}
 use Rattle.framing.proofs.Stands.{fresh-sound}
 use Rattle.sockets.specs.Framer.{Idle}
@@ -30,7 +30,7 @@ use Rattle.sysex.specs.Forms.{longest}
 use Rattle.sysex.specs.Numbers.{answerNumber}
 use Rattle.sysex.specs.Carrying.{Outcome}
 use Rattle.podbox.specs.declared.Move.{Move}
-use Rattle.podbox.specs.Settings.{isValid}
+use Rattle.podbox.specs.Settings.{isValid, areMarks}
 use Rattle.podbox.specs.Whole.{bodyOf, messageOrder}
 use Rattle.podbox.specs.Moves.{mostMoves, moveMessage}
 use Rattle.podbox.specs.Box.{limit, panel, Given, Whole, Moves, Delivered, FromPanel, FromList, handsOf, directTests, noted, extentOf, boxRules, wholeOf, movesOf}
@@ -38,18 +38,19 @@ use Rattle.podbox.proofs.Taking.{some-stored}
 use Rattle.demands.specs.Moves.{FewMoves}
 use Rattle.demands.proofs.Tells.{order-tells, message-tells, channel-quiet}
 use Rattle.demands.proofs.Carried.{Tame, stores, sends, applies, refuses, message-tame, handed-tame}
+use Rattle.demands.proofs.Marks.{Marking, marking-length, marking-valid, message-marks, handed-marks}
 
 -- what an outcome does not do: it neither grows memory nor turns a call away
 tame-length : {kind : Kind} {held : Held} {o : Outcome} → Tame kind held o → length (o .held .memory) ≡ length (held .memory)
 tame-length (stores after e) = e
 tame-length (sends bytes short) = refl
-tame-length (applies after e) = e
+tame-length (applies after e stays) = e
 tame-length (refuses number lo hi) = refl
 
 tame-taken : {kind : Kind} {held : Held} {o : Outcome} → Tame kind held o → turnedAway (answerNumber (o .answer)) ≡ false
 tame-taken (stores after e) = refl
 tame-taken (sends bytes short) = refl
-tame-taken (applies after e) = refl
+tame-taken (applies after e stays) = refl
 tame-taken (refuses number lo hi) = rw (lt-leb 30 number (omega arith)) refl
 
 inside : (s : Socket) → leb (socketNumber s) 1 ≡ true
@@ -77,7 +78,7 @@ module _ (kindNumber : ℕ) (settings : Settings) where
       rw (channel-quiet (kindOf kindNumber) settings panel held (0xB0 + settings .channel) (move .controller) (move .value)) (none-sent _ moves)
 
   away-direct : (x : Given) (held : Held) (out : List ℕ) → Away (boxRules kindNumber settings) (directTests kindNumber settings x held out)
-  away-direct (Whole message) held reply = (refl, (refl, (refl, (refl, tt))))
+  away-direct (Whole message) held reply = (refl, (refl, (refl, (refl, (refl, (refl, tt))))))
   away-direct (Moves moves) held numbers = (refl, (refl, (refl, (refl, (refl, tt)))))
 
   enough-direct : (x : Given) (held : Held) (out : List ℕ) → AllHold (directTests kindNumber settings x held out) → memorySize (kindOf kindNumber) ≤ length (held .memory)
@@ -96,9 +97,9 @@ module _ (kindNumber : ℕ) (settings : Settings) where
   pub lawful : Lawful (boxRules kindNumber settings)
   lawful = record {
     positive = some-stored (kindOf kindNumber);
-    away = λ socket entry. (refl, (refl, (refl, (refl, (refl, (refl, (refl, tt)))))));
+    away = λ socket entry. (refl, (refl, (refl, (refl, (refl, (refl, (refl, (refl, (refl, tt)))))))));
     awayDirect = away-direct;
-    enough = λ socket entry all. (let room = leb-true (longest (kindOf kindNumber)) (length (entry .receive)) (all .1 .1 .0) in omega (arith, some-stored (kindOf kindNumber)), leb-true _ _ (all .1 .0));
+    enough = λ socket entry all. (let room = leb-true (longest (kindOf kindNumber)) (length (entry .receive)) (all .1 .1 .1 .0) in omega (arith, some-stored (kindOf kindNumber)), leb-true _ _ (all .1 .0));
     enoughDirect = enough-direct;
     kept = kept;
     quiet = (refl, refl);
@@ -149,11 +150,26 @@ module _ (kindNumber : ℕ) (settings : Settings) where
         handed-each [] = refl
         handed-each (move ∷ rest) = ap (λ (fs : FinishesOf (boxRules kindNumber settings)). FromDirect (FromList (moveMessage settings move)) ∷ fs) (handed-each rest)
 
+  -- what a box that turns no call away holds: enough, and marks that are 0 or 1
+  abbrev Able : Held → Type 0
+  Able held = (memorySize (kindOf kindNumber) ≤ length (held .memory)) × (markCount ≤ length (held .marks)) × (areMarks (held .marks) ≡ true)
+
+  able-kept : (held : Held) (f : Finish Delivered) → Able held → Able (boxRules kindNumber settings .carry held f .held)
+  able-kept held f able =
+      let marking = carry-marks held f in
+      (kept held f (able .0), omega (arith, able .1, marking-length (able .1) (marking .1)), marking-valid (able .1) (marking .1) (able .2))
+    where
+      carry-marks : (held : Held) (f : Finish Delivered) → (player : ℕ) × Marking (kindOf kindNumber) player (held .marks) (boxRules kindNumber settings .carry held f .held .marks)
+      carry-marks held (FromSocket s m) = (_, message-marks (kindOf kindNumber) settings (socketNumber s) held m)
+      carry-marks held (FromDirect (FromPanel message)) = (_, handed-marks (kindOf kindNumber) settings panel held message)
+      carry-marks held (FromDirect (FromList m)) = (_, message-marks (kindOf kindNumber) settings panel held m)
+
   -- Histories exist: with a kind, valid settings and enough lent, a box with sound receivers turns no call away, if no list is too long.
   pub box-lives : isKind kindNumber ≡ true → isValid settings ≡ true → (reply : List ℕ) → longest (kindOf kindNumber) ≤ length reply → (w : WorldOf (boxRules kindNumber settings)) (calls : CallsOf (boxRules kindNumber settings))
-      → FewMoves calls → Sound (boxRules kindNumber settings) w → memorySize (kindOf kindNumber) ≤ length (w .held .memory) → Roomy (boxRules kindNumber settings) w
+      → FewMoves calls → Sound (boxRules kindNumber settings) w → memorySize (kindOf kindNumber) ≤ length (w .held .memory)
+      → markCount ≤ length (w .held .marks) → areMarks (w .held .marks) ≡ true → Roomy (boxRules kindNumber settings) w
       → (v : WorldOf (boxRules kindNumber settings)) × (saids : SaidsOf (boxRules kindNumber settings)) × History (boxRules kindNumber settings) w calls v saids
-  box-lives known valid reply long w calls few sound good rooms = live (boxRules kindNumber settings) lawful reply Fair ready outs w calls sound good rooms (fair calls few)
+  box-lives known valid reply long w calls few sound m k marked rooms = live (boxRules kindNumber settings) lawful reply Able Fair ready outs w calls sound (m, k, marked) rooms (fair calls few)
     where
       Fair : Given → List ℕ → Type 0
       Fair (Whole message) out = longest (kindOf kindNumber) ≤ length out
@@ -169,20 +185,22 @@ module _ (kindNumber : ℕ) (settings : Settings) where
       fair (Direct (Whole message) ∷ rest) few = (long, fair rest few)
       fair (Direct (Moves moves) ∷ rest) few = ((few .0, omega (arith, length-replicate {A = ℕ} (length moves) 0)), fair rest (few .1))
 
-      taken-direct : (x : Given) (out : List ℕ) (held : Held) → memorySize (kindOf kindNumber) ≤ length (held .memory) → Fair x out → AllHold (directTests kindNumber settings x held out)
-      taken-direct (Whole message) out held m h = (known, (le-leb _ _ m, (le-leb _ _ h, (valid, tt))))
-      taken-direct (Moves moves) out held m h = (le-leb _ _ (h .0), (le-leb _ _ (h .1), (known, (le-leb _ _ m, (valid, tt)))))
+      taken-direct : (x : Given) (out : List ℕ) (held : Held) → Able held → Fair x out → AllHold (directTests kindNumber settings x held out)
+      taken-direct (Whole message) out held able h = (known, (le-leb _ _ (able .0), (le-leb _ _ (able .1), (le-leb _ _ h, (valid, (able .2, tt))))))
+      taken-direct (Moves moves) out held able h = (le-leb _ _ (h .0), (le-leb _ _ (h .1), (known, (le-leb _ _ (able .0), (valid, tt)))))
 
-      answered-direct : (held : Held) (x : Given) → memorySize (kindOf kindNumber) ≤ length (held .memory) → turnedAway (answerNumber (directDoes (boxRules kindNumber settings) held x .answer)) ≡ false
-      answered-direct held (Whole message) g = tame-taken (handed-tame (kindOf kindNumber) settings panel held g message)
-      answered-direct held (Moves moves) g = refl
+      answered-direct : (held : Held) (x : Given) → Able held → turnedAway (answerNumber (directDoes (boxRules kindNumber settings) held x .answer)) ≡ false
+      answered-direct held (Whole message) able = tame-taken (handed-tame (kindOf kindNumber) settings panel held (able .0) message)
+      answered-direct held (Moves moves) able = refl
 
-      ready : Ready (boxRules kindNumber settings) reply Fair
+      ready : Ready (boxRules kindNumber settings) reply Able Fair
       ready = record {
-        taken = λ s held r receive m e b. (known, (le-leb _ _ m, (le-leb (longest (kindOf kindNumber)) (length receive) (omega arith), (le-leb _ _ long, (inside s, (e, (valid, tt)))))));
+        kept = able-kept;
+        taken = λ s held r receive able e b.
+            (known, (le-leb _ _ (able .0), (le-leb _ _ (able .1), (le-leb (longest (kindOf kindNumber)) (length receive) (omega arith), (le-leb _ _ long, (inside s, (e, (valid, (able .2, tt)))))))));
         takenDirect = taken-direct;
         quiet = (refl, refl);
-        answered = λ held s m g. tame-taken (message-tame (kindOf kindNumber) settings (socketNumber s) held g m);
+        answered = λ held s m able. tame-taken (message-tame (kindOf kindNumber) settings (socketNumber s) held (able .0) m);
         answeredDirect = answered-direct;
       }
 

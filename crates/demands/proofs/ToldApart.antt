@@ -5,10 +5,12 @@ use mathlib.Core.Logic.{⊎-elim}
 use mathlib.Core.Path.{_≡_, refl}
 use native.Mathlib.Omega.{arith}
 use borrow.Author.Tests.{leb-true}
+use lib.ListN.{length}
 use Rattle.ground.proofs.InOrder.{tested-cases}
 use Rattle.kinds.specs.declared.Kind.{Kind}
-use Rattle.kinds.specs.Kinds.{kindOf}
-use Rattle.programs.specs.Held.{Held, Edit, bytesIn}
+use Rattle.kinds.specs.Kinds.{kindOf, sizeOf}
+use Rattle.programs.specs.Memory.{editPlace, partOf}
+use Rattle.programs.specs.Held.{Held}
 use Rattle.controls.specs.declared.Reading.{Reading}
 use Rattle.controls.specs.declared.Reading.the-variants as reading
 use Rattle.controls.specs.Formulas.{numberFor}
@@ -22,7 +24,7 @@ use Rattle.sysex.specs.declared.Settings.{Settings}
 use Rattle.sysex.specs.declared.Answer.{Answer}
 use Rattle.sysex.specs.Forms.{longest}
 use Rattle.sysex.specs.Numbers.{answerNumber, answerLength}
-use Rattle.sysex.specs.Carrying.{Left, heldTest}
+use Rattle.sysex.specs.Carrying.{Left, memoryTest}
 use Rattle.sysex.proofs.Lengths.{longest-bounds}
 use Rattle.podbox.specs.declared.Move.{Move}
 use Rattle.podbox.specs.Box.{kindTest, panel, takeOf, wholeOf, movesOf}
@@ -88,11 +90,11 @@ shown-apart kind controller edit (reading.Value value) e =
     let low = row-sane kind controller .low in let within = shown-smallest kind controller edit value e .1 .within in (refl, omega arith)
 shown-apart kind controller edit (reading.Refused number) e = refl
 
-pub back-apart : (kindNumber controller : ℕ) (held : Held) → Apart (backCall kindNumber controller held) (backNumber kindNumber controller held)
+pub back-apart : (kindNumber controller : ℕ) (memory : List ℕ) → Apart (backCall kindNumber controller memory) (backNumber kindNumber controller memory)
 unfolding backNumber backCall memoryBack readingNumber
-back-apart kindNumber controller held =
+back-apart kindNumber controller memory =
     let kind = kindOf kindNumber in
-    let edit = bytesIn kind panel Edit held in
-    tested-cases (λ (x : Reading). Apart x (readingNumber x)) (kindTest kindNumber ∷ heldTest kind held ∷ []) reading.Refused (backOf kind controller edit)
+    let edit = partOf (editPlace kind panel) (sizeOf kind) memory in
+    tested-cases (λ (x : Reading). Apart x (readingNumber x)) (kindTest kindNumber ∷ memoryTest kind (length memory) ∷ []) reading.Refused (backOf kind controller edit)
     (λ _. shown-apart kind controller edit _ refl)
     (λ number _. refl)

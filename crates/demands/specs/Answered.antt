@@ -30,11 +30,13 @@ pub record Confined (kind : Kind) (held : Held) (reply : List ℕ) (l : Left) : 
   pub refused : 10 ≤ answerNumber (l .answer) → (l .held ≡ held) × (l .reply ≡ reply)
   -- "Bytes of any buffer not named under Effect keep their value": only 1 and 3 change what the box holds
   pub kept : (answerNumber (l .answer) ≡ 1 → ⊥) → (answerNumber (l .answer) ≡ 3 → ⊥) → l .held ≡ held
+  -- "A controller leaves the mark as it was": only 1 moves a mark
+  pub marks-kept : (answerNumber (l .answer) ≡ 1 → ⊥) → l .held .marks ≡ held .marks
   -- no byte behind the reply's length changes
   pub behind : drop (answerLength (l .answer)) (l .reply) ≡ drop (answerLength (l .answer)) reply
   -- a reply has room in the reply buffer
   pub fits : answerLength (l .answer) ≤ longest kind
-  pub length-kept : length (l .held .memory) ≡ length (held .memory)
+  pub length-kept : (length (l .held .memory) ≡ length (held .memory)) × (length (l .held .marks) ≡ length (held .marks))
 
 -- a data byte of an open SysEx behind what is stored, where there is room, or F0 at the start: the one place of the receive buffer that a byte may change
 abbrev pub OnePlace : Kind → Receiver → ℕ → List ℕ → List ℕ → Type 0

@@ -16,11 +16,12 @@ use Rattle.sysex.specs.declared.Answer.the-variants.{Stored}
 use Rattle.sysex.specs.Carrying.{Outcome}
 use Rattle.podbox.specs.Messages.{isHeard}
 
--- every program stays, and so does every byte of memory outside the edit buffer
+-- every program stays, and so does every byte of memory outside the edit buffer, and every mark: "A controller leaves the mark as it was."
 pub record EditAlone (kind : Kind) (player : ℕ) (held after : Held) : Type 0 where
   pub programs-stay : (p : ℕ) → p ≤ lastProgram → bytesIn kind player (One p) after ≡ bytesIn kind player (One p) held
   pub else-stays : (k : ℕ) → (k < editPlace kind player) ⊎ (editPlace kind player + sizeOf kind ≤ k) → getD (after .memory) k 0 ≡ getD (held .memory) k 0
   pub length-stays : length (after .memory) ≡ length (held .memory)
+  pub marks-stay : after .marks ≡ held .marks
 
 -- 3 "controller applied": "its bytes of the edit buffer"
 pub record Moved (kind : Kind) (player controller value : ℕ) (held : Held) (o : Outcome) : Type 0 where

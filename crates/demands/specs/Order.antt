@@ -3,9 +3,11 @@
 use Prim.Native.Nat.{ℕ}
 use mathlib.Core.Bool.{Bool, true, false, cond}
 use mathlib.Core.List.{List, [], _∷_, _++_, map}
+use lib.ListN.{length}
 use Rattle.ground.specs.Tests.{Test, test, renamed}
 use Rattle.kinds.specs.declared.Kind.{Kind}
-use Rattle.kinds.specs.Kinds.{kindOf}
+use Rattle.kinds.specs.Kinds.{kindOf, sizeOf}
+use Rattle.programs.specs.Memory.{editPlace, partOf}
 use Rattle.programs.specs.Held.{Held, Edit, bytesIn}
 use Rattle.controls.specs.declared.Reading.{Reading}
 use Rattle.controls.specs.declared.Reading.the-variants as reading
@@ -21,7 +23,7 @@ use Rattle.sockets.specs.Promise.{happeningOf}
 use Rattle.sysex.specs.declared.Settings.{Settings}
 use Rattle.sysex.specs.Numbers.{checkNumber}
 use Rattle.sysex.specs.Judging.{testsOf}
-use Rattle.sysex.specs.Carrying.{heldTest}
+use Rattle.sysex.specs.Carrying.{memoryTest}
 use Rattle.podbox.specs.Messages.{isController, channelTests}
 use Rattle.podbox.specs.Whole.{messageTests}
 use Rattle.podbox.specs.Box.{limit, panel, kindTest, takeTests, wholeTests}
@@ -53,9 +55,9 @@ isValue (reading.Value value) = true
 isValue (reading.Refused number) = false
 
 -- and of showing back: 32, 30, 17, 19, 40; the last fails where no value gives the stored number
-abbrev pub showingTests : ℕ → ℕ → Held → List (Test ℕ)
-showingTests kindNumber controller held =
+abbrev pub showingTests : ℕ → ℕ → List ℕ → List (Test ℕ)
+showingTests kindNumber controller memory =
     let kind = kindOf kindNumber in
     let r = rowOf kind controller in
-    let edit = bytesIn kind panel Edit held in
-    kindTest kindNumber ∷ heldTest kind held ∷ (backTests kind r edit ++ (test 40 (isValue (shownOf r (numberIn r edit))) ∷ []))
+    let edit = partOf (editPlace kind panel) (sizeOf kind) memory in
+    kindTest kindNumber ∷ memoryTest kind (length memory) ∷ (backTests kind r edit ++ (test 40 (isValue (shownOf r (numberIn r edit))) ∷ []))

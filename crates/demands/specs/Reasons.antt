@@ -13,7 +13,7 @@ use Rattle.sysex.specs.declared.Check.{Check}
 use Rattle.sysex.specs.declared.Check.the-variants.{TooLong, Ours, OpcodeAndType, Length, Program, Version, HalfBytes, Channel}
 use Rattle.sysex.specs.declared.Order.{Order}
 use Rattle.sysex.specs.declared.Order.the-variants.{Refused}
-use Rattle.sysex.specs.Forms.{opcodeOf, typeOf, programOf, dump, program, all, version, versionPlace, dataPlace, wholeLength, longest, isIdentity}
+use Rattle.sysex.specs.Forms.{opcodeOf, typeOf, programOf, dump, program, all, version, versionPlace, dataPlace, wholeLength, shortest, longest, isIdentity}
 use Rattle.sysex.specs.Numbers.{IsDone}
 use Rattle.sysex.specs.Judging.{hasForm, isKnown}
 use Rattle.podbox.specs.Settings.{freshSettings}
@@ -34,8 +34,9 @@ module _ (kind : Kind) (message : List ℕ) where
     most : longest kind < length message → Missed (TooLong (longest kind))
     ours : (isFramed message && hasForm kind body) ≡ false → Missed (Ours (deviceOf kind))
     known : isKnown body ≡ false → Missed OpcodeAndType
-    whole : opcodeOf body ≤ dump → typeOf body ≤ all → (length message ≡ wholeLength kind (opcodeOf body) (typeOf body) → ⊥)
-        → Missed (Length (wholeLength kind (opcodeOf body) (typeOf body)))
+    whole : opcodeOf body ≤ dump → typeOf body ≤ all → (length message ≡ wholeLength kind true (opcodeOf body) (typeOf body) → ⊥)
+        → (length message ≡ wholeLength kind (shortest kind) (opcodeOf body) (typeOf body) → ⊥)
+        → Missed (Length (wholeLength kind true (opcodeOf body) (typeOf body)) (wholeLength kind (shortest kind) (opcodeOf body) (typeOf body)))
     numbered : opcodeOf body ≤ dump → typeOf body ≡ program → lastProgram < programOf body → Missed (Program lastProgram)
     versioned : opcodeOf body ≡ dump → typeOf body ≤ all → (getD body (versionPlace (typeOf body)) 0 ≡ version → ⊥) → Missed (Version version)
     halved : opcodeOf body ≡ dump → typeOf body ≤ all → allHalves (drop (dataPlace (typeOf body)) body) ≡ false → Missed (HalfBytes 0x0F)

@@ -3,7 +3,7 @@ use Prim.Native.Nat.{ℕ, _+_, _-_, _*_, _≤_}
 use mathlib.Core.Bool.{Bool, true, false, cond}
 use mathlib.Core.List.{List}
 use mathlib.Core.Logic.{_⊎_, ⊎-elim}
-use mathlib.Core.Path.{_≡_, refl, sym, ap, _∙_}
+use mathlib.Core.Path.{_≡_, sym, ap, _∙_}
 use native.Mathlib.Nat.{add-mul, add-sub-cancel-left, mul-le-mul-right}
 use native.Mathlib.Omega.{arith}
 use lib.Dec.{eqb}
@@ -19,23 +19,13 @@ use Rattle.kinds.specs.Kinds.{sizeOf, hasSpare, largest}
 use Rattle.kinds.proofs.AnyKind.{size-bounds}
 use Rattle.programs.specs.Memory.{programCount, lastProgram, memorySize, markCount, partOf, putPart}
 use Rattle.programs.specs.Spares.{withSpares, withoutSpares, allSet}
-use Rattle.programs.specs.Held.{Held, heldOf, Target, One, Edit, All, placeFor, countFor, slotFor, slotsFor}
+use Rattle.programs.specs.Held.{Held, heldOf, Target, slotFor, slotsFor}
+use Rattle.programs.proofs.Slots.{place-slots, count-slots}
 use Rattle.sysex.specs.declared.Settings.{Settings}
 use Rattle.sysex.specs.declared.Answer.the-variants.{Sent}
 use Rattle.sysex.specs.Forms.{typeFor, ppFor, dataPlace, longest, dumpBody, ended}
 use Rattle.sysex.specs.Carrying.{sending, answering, storing, bodyDoes, carryOf}
 use Rattle.sysex.specs.Private.{slotsLong, slotsSent, slotsMarked, slotsStored}
-
--- what is named, by its slots
-place-slots : (kind : Kind) (player : ℕ) (t : Target) → slotFor player t * sizeOf kind ≡ placeFor kind player t
-place-slots kind player (One p) = refl
-place-slots kind player Edit = refl
-place-slots kind player All = omega arith
-
-count-slots : (kind : Kind) (t : Target) → slotsFor t * sizeOf kind ≡ countFor kind t
-count-slots kind (One p) = omega arith
-count-slots kind Edit = omega arith
-count-slots kind All = refl
 
 -- the dump of the slots that are named is the answer to their request
 pub sent-slots : (kind : Kind) (player : ℕ) (t : Target) (slot : ℕ) (held : Held) (reply : List ℕ) → slot ≡ slotFor player t

@@ -1,5 +1,5 @@
 -- What the judge answers, with what it says of the body: an order is given for a body of its format, and for no other.
-use Prim.Native.Nat.{ℕ, _+_, _-_, _*_, _<_}
+use Prim.Native.Nat.{ℕ, _+_, _-_, _*_}
 use mathlib.Core.Bool.{Bool, true, false, not, _&&_, false≢true}
 use mathlib.Core.List.{List, [], _∷_, _++_}
 use mathlib.Core.Logic.{_⊎_, inl, inr, ⊎-elim}
@@ -20,8 +20,8 @@ use Rattle.sysex.specs.declared.Order.{Order}
 use Rattle.sysex.specs.declared.Order.the-variants.{Refused}
 use Rattle.kinds.specs.declared.Kind.{Kind}
 use Rattle.kinds.specs.Kinds.{sizeOf, hasSpare, headerOf}
-use Rattle.kinds.proofs.AnyKind.{size-bounds}
 use Rattle.programs.specs.Held.{Target, One, Edit, All, countFor, slotsFor, sentSize, sentFor}
+use Rattle.programs.proofs.Slots.{sent-slots, long-all, short-fewer}
 use Rattle.sysex.specs.Forms.{begins, opcodeOf, typeOf, programOf, request, program, edit, versionPlace, dataPlace, dataCount, bodyLength, shortest}
 use Rattle.sysex.specs.Forms.{typeFor, ppFor, requestBody, dumpBody, identityBody, isIdentity, isOurChannel}
 use Rattle.sysex.specs.Judging.{hasForm, hasProgram, furtherTests, testsOf, orderOf, formOrder, bodyOrder, judgeOf}
@@ -40,28 +40,13 @@ begun (x ∷ start) (b ∷ body) t =
     let rest = begun start body (p .1) in
     λ i. same i ∷ rest i
 
--- the bytes that a dump has of what it names: by slots, in half bytes, and all of them or fewer
-sent-slots : (kind : Kind) (long : Bool) (t : Target) → sentFor kind long t ≡ slotsFor t * sentSize kind long
-sent-slots kind long (One p) = omega arith
-sent-slots kind long Edit = omega arith
-sent-slots kind long All = refl
-
+-- the half bytes of a dump
 halves-sent : (kind : Kind) (long : Bool) (t : Target) → dataCount kind long (typeFor t) ≡ 2 * sentFor kind long t
 halves-sent kind long (One p) = refl
 halves-sent kind long Edit = refl
 halves-sent kind long All = refl
 
-long-all : (kind : Kind) (t : Target) → sentFor kind true t ≡ countFor kind t
-long-all kind (One p) = refl
-long-all kind Edit = refl
-long-all kind All = refl
-
-short-fewer : (kind : Kind) (t : Target) → sentFor kind false t < countFor kind t
-short-fewer kind (One p) = omega (arith, size-bounds kind .0)
-short-fewer kind Edit = omega (arith, size-bounds kind .0)
-short-fewer kind All = omega (arith, size-bounds kind .0)
-
--- so its length says whether it is long
+-- the length of a dump says whether it is long
 pub is-long : (kind : Kind) (t : Target) (long : Bool) (body : List ℕ) → length body ≡ dataPlace (typeFor t) + 2 * sentFor kind long t → isLong kind t body ≡ long
 is-long kind t true body e = eq-eqb _ _ (e ∙ ap (λ (n : ℕ). dataPlace (typeFor t) + 2 * n) (long-all kind t))
 is-long kind t false body e = ne-eqb (length body) (dataPlace (typeFor t) + 2 * countFor kind t) (λ h. omega (arith, short-fewer kind t))
@@ -206,7 +191,7 @@ module _ (kind : Kind) (settings : Settings) (body : List ℕ) where
 
 -- what an order needs of its body to be carried out
 module _ (kind : Kind) (settings : Settings) (body : List ℕ) where
-  data-behind : (t : Target) (bytes : List ℕ) → (length (dumpBody kind t bytes) ≡ dataPlace (typeFor t) + 2 * length bytes) × (drop (dataPlace (typeFor t)) (dumpBody kind t bytes) ≡ split bytes)
+  pub data-behind : (t : Target) (bytes : List ℕ) → (length (dumpBody kind t bytes) ≡ dataPlace (typeFor t) + 2 * length bytes) × (drop (dataPlace (typeFor t)) (dumpBody kind t bytes) ≡ split bytes)
   data-behind (One p) bytes = (omega (arith, length-split bytes), refl)
   data-behind Edit bytes = (omega (arith, length-split bytes), refl)
   data-behind All bytes = (omega (arith, length-split bytes), refl)
