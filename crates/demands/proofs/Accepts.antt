@@ -28,7 +28,7 @@ and-false true = refl
 and-false false = refl
 
 -- nothing that begins F0 00 is an identity request
-no-identity : (rest : List ℕ) → isIdentity (0xF0 ∷ 0x00 ∷ rest) ≡ false
+pub no-identity : (rest : List ℕ) → isIdentity (0xF0 ∷ 0x00 ∷ rest) ≡ false
 unfolding isIdentity
 no-identity rest = rw (and-false (leb (getD rest 0 0) 0x7F)) (and-false (eqb (suc (suc (length rest))) 5))
 

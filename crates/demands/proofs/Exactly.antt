@@ -42,7 +42,7 @@ use Rattle.demands.proofs.Accepts.{dump-judged, request-judged, identit
 use Rattle.demands.proofs.Forms.{Opens, store-does, send-does, dump-data, dump-opens, request-opens, identity-opens, ended-does}
 
 module _ (kind : Kind) (settings : Settings) (player : ℕ) (held : Held) where
-  abbrev Does : List ℕ → Outcome
+  abbrev pub Does : List ℕ → Outcome
   Does body = bodyDoes kind settings player body held
 
   -- every dump, request and identity request is carried out
@@ -100,7 +100,7 @@ module _ (kind : Kind) (settings : Settings) (player : ℕ) (held : Held) where
   }
 
   -- a message that is handed over whole is refused, or it is a body and F7, and does what that does
-  by-frame : (message : List ℕ) (P : Outcome → Type 0) → ((number : ℕ) → P (refusing held number)) → ((body : List ℕ) → message ≡ ended body → P (Does body))
+  pub by-frame : (message : List ℕ) (P : Outcome → Type 0) → ((number : ℕ) → P (refusing held number)) → ((body : List ℕ) → message ≡ ended body → P (Does body))
       → P (handedDoes kind settings player message held)
   unfolding messageDoes
   by-frame message P when-refused when-framed =

@@ -59,7 +59,7 @@ use Rattle.costerbloom.specs.Numbers.{scaleCall, memoryBack, backCall}
 use Rattle.demands.specs.Order.{finishTests, byteTests, panelTests, scalingTests, isValue, showingTests}
 
 -- one list of tests in front of an answer that is no refusal
-in-order : (ts : List (Test ℕ)) (given done : Answer) (number : ℕ) → (done ≡ refused number → ⊥) → given ≡ tested ts refused done → (given ≡ refused number) ↔ FirstToFail ts number
+pub in-order : (ts : List (Test ℕ)) (given done : Answer) (number : ℕ) → (done ≡ refused number → ⊥) → given ≡ tested ts refused done → (given ≡ refused number) ↔ FirstToFail ts number
 in-order ts given done number other e = (
   (λ f. tested-exactly ts refused done number other (λ m n s. ap answerNumber s) (sym e ∙ f)),
   (λ f. e ∙ tested-failed refused done f),
@@ -67,10 +67,10 @@ in-order ts given done number other e = (
 
 module _ (kind : Kind) (settings : Settings) (player : ℕ) (held : Held) where
   -- what a body that passes its checks answers, and the checks in front of it
-  abbrev passedBody : List ℕ → Answer
+  abbrev pub passedBody : List ℕ → Answer
   passedBody body = orderDoes kind settings player (bodyOrder body) body held .answer
 
-  checks-tested : (ts : List (Test Check)) (body : List ℕ)
+  pub checks-tested : (ts : List (Test Check)) (body : List ℕ)
       → orderDoes kind settings player (judgedBy ts (bodyOrder body)) body held .answer ≡ tested (map (renamed checkNumber) ts) refused (passedBody body)
   unfolding orderDoes
   checks-tested ts body =

@@ -6,6 +6,7 @@ pub mod Carried
 pub mod Marks
 pub mod Exactly
 pub mod ComesBack
+pub mod BothLengths
 pub mod InOrder
 pub mod EveryCall
 pub mod Byte48

@@ -2,6 +2,7 @@ pub mod Answered
 pub mod Exactly
 pub mod Order
 pub mod EditAlone
+pub mod Marks
 pub mod Moves
 pub mod Reasons
 pub mod Byte48

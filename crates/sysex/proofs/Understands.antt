@@ -31,7 +31,7 @@ use Rattle.sysex.specs.Formats.{There, IsDump, IsRequest, IsIdentity, Me
 use Rattle.sysex.proofs.Judged.{Right, right}
 
 -- a list that begins so is that beginning, and the rest
-begun : (start body : List ℕ) → begins start body ≡ true → body ≡ start ++ drop (length start) body
+pub begun : (start body : List ℕ) → begins start body ≡ true → body ≡ start ++ drop (length start) body
 begun [] body t = refl
 begun (x ∷ start) [] t = absurd (false≢true t)
 begun (x ∷ start) (b ∷ body) t =
