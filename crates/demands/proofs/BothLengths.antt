@@ -1,5 +1,5 @@
 -- Req 06: what a dump leaves, long or short; when a length is wrong; and that nothing but a dump moves a mark.
-use Prim.Native.Nat.{ℕ, suc, _+_, _-_, _*_, _≤_, _<_}
+use Prim.Native.Nat.{ℕ, zero, suc, _+_, _-_, _*_, _≤_, _<_}
 use mathlib.Core.Bool.{Bool, true, false, cond}
 use mathlib.Core.List.{List, [], _∷_, _++_, map}
 use mathlib.Core.Logic.{_⊎_, inl, inr, ⊎-elim, _↔_}
@@ -7,33 +7,34 @@ use mathlib.Core.Path.{_≡_, refl, sym, ap, _∙_}
 use native.Mathlib.Nat.{mul-le-mul-right, suc-mul}
 use native.Mathlib.Omega.{arith}
 use lib.Dec.{eqb}
-use lib.ListN.{length, getD, take, drop, replicate, length-append, length-replicate, getD-replicate, List·getD-append}
-use lib.Seq.{length-take-le, getD-append-add}
-use borrow.Author.Tests.{eqb-false, ne-eqb}
+use lib.ListN.{length, getD, take, drop, replicate, length-append, length-drop, length-replicate, getD-replicate, List·getD-append}
+use lib.Seq.{length-take-le, getD-append-add, getD-take, getD-drop}
+use borrow.Author.Tests.{eqb-true, eqb-false, eq-eqb, ne-eqb}
 use Rattle.ground.specs.Tests.{Test, FirstToFail, here, later, renamed}
-use Rattle.ground.proofs.Tests.{by, neither}
+use Rattle.ground.proofs.Tests.{both, by, neither}
 use Rattle.ground.proofs.InOrder.{Names, first-named, tested-cases}
 use Rattle.kinds.specs.declared.Kind.{Kind}
 use Rattle.kinds.specs.Kinds.{sizeOf, hasSpare, headerOf, kindOf}
 use Rattle.kinds.proofs.AnyKind.{size-bounds}
 use Rattle.programs.specs.Memory.{memorySize, markCount, partOf, putPart}
-use Rattle.programs.specs.Held.{Held, Target, placeFor, countFor, slotFor, slotsFor, received, storeIn}
+use Rattle.programs.specs.Spares.{allSet}
+use Rattle.programs.specs.Held.{Held, Target, placeFor, countFor, slotFor, slotsFor, received, storeIn, goesLong, bytesOut}
 use Rattle.programs.proofs.Parts.{put-before, put-behind, put-length, part-in-put}
 use Rattle.programs.proofs.Spares.{with-at}
-use Rattle.programs.proofs.Slots.{count-slots, sent-slots, received-length, marked-length}
+use Rattle.programs.proofs.Slots.{count-slots, sent-slots, received-length, out-length, marked-length}
 use Rattle.sockets.specs.Framer.{Message, SysEx, TooLong, Channel}
 use Rattle.sockets.specs.Calls.{Finish, FromSocket, FromDirect}
 use Rattle.sockets.specs.Promise.{socketNumber}
 use Rattle.sysex.specs.declared.Settings.{Settings}
 use Rattle.sysex.specs.declared.Check.{Check}
 use Rattle.sysex.specs.declared.Order.{Order}
-use Rattle.sysex.specs.Forms.{begins, opcodeOf, typeOf, request, bodyLength, shortest, isIdentity, ended}
+use Rattle.sysex.specs.Forms.{begins, opcodeOf, typeOf, request, dump, typeFor, dataPlace, bodyLength, wholeLength, shortest, dumpBody, isIdentity, ended}
 use Rattle.sysex.specs.Numbers.{refused, checkNumber}
 use Rattle.sysex.specs.Judging.{hasForm, isKnown, hasLength, furtherTests, testsOf, identityTests, formTests, dataTests, bodyOrder, judgeOf}
 use Rattle.sysex.specs.Carrying.{Outcome, refusing, storing, orderDoes, bodyDoes}
-use Rattle.sysex.specs.Formats.{IsDump, Meant, identity, asked, dumped, unsaid}
+use Rattle.sysex.specs.Formats.{There, IsDump, Meant, identity, asked, dumped, unsaid}
 use Rattle.sysex.proofs.Numbered.{passed-done, done-not-refused}
-use Rattle.sysex.proofs.Understands.{begun, meant}
+use Rattle.sysex.proofs.Understands.{begun, halves-sent, data-behind, meant}
 use Rattle.podbox.specs.Messages.{isController, channelTests, channelDoes, messageDoes}
 use Rattle.podbox.specs.Whole.{handedDoes}
 use Rattle.podbox.specs.Box.{panel, Delivered, FromPanel, FromList, boxRules}
@@ -96,6 +97,49 @@ module _ (kind : Kind) (player : ℕ) (held : Held) (m : memorySize kind ≤ len
         marks-length = marked-length kind player t long (held .marks) slots-inside;
         none-moved = λ has. rw has;
       }
+
+-- "Single dumps go out in the length their mark says; an all programs dump is long only if all 36 marks are set."
+all-set-at : (marks : List ℕ) → (allSet marks ≡ true) ↔ ((i : ℕ) → i < length marks → getD marks i 0 ≡ 1)
+all-set-at marks = (each marks, all marks)
+  where
+    each : (marks : List ℕ) → allSet marks ≡ true → (i : ℕ) → i < length marks → getD marks i 0 ≡ 1
+    each [] s i h = absurd (omega arith)
+    each (m ∷ marks) s zero h = eqb-true m 1 (both (eqb m 1) (allSet marks) s .0)
+    each (m ∷ marks) s (suc i) h = each marks (both (eqb m 1) (allSet marks) s .1) i (omega arith)
+
+    all : (marks : List ℕ) → ((i : ℕ) → i < length marks → getD marks i 0 ≡ 1) → allSet marks ≡ true
+    all [] s = refl
+    all (m ∷ marks) s = rw (eq-eqb m 1 (s 0 (omega arith))) (all marks (λ i h. s (suc i) (omega arith)))
+
+module _ (kind : Kind) (player : ℕ) (held : Held) (t : Target) (there : There t) where
+  pub goes-long : hasSpare kind ≡ true → markCount ≤ length (held .marks)
+      → (goesLong kind player t held ≡ true) ↔ ((i : ℕ) → i < slotsFor t → getD (held .marks) (slotFor player t + i) 0 ≡ 1)
+  goes-long has k =
+      let slot = slotFor player t in
+      let slots = slotsFor t in
+      let own = partOf slot slots (held .marks) in
+      let inside = slots-named player t there in
+      let many : length own ≡ slots = length-take-le slots (drop slot (held .marks)) (simp length-drop (omega arith)) in
+      let same : (i : ℕ) → i < slots → getD own i 0 ≡ getD (held .marks) (slot + i) 0 = λ i h. getD-take slots (drop slot (held .marks)) i 0 h ∙ getD-drop slot (held .marks) i 0 in
+      let exactly = all-set-at own in (
+        (λ e i h. sym (same i h) ∙ exactly .0 (rw has at e) i (omega (arith, many))),
+        (λ s. rw has (exactly .1 (λ i h. same i (omega (arith, many)) ∙ s i (omega (arith, many))))),
+      )
+
+  pub goes-long-always : hasSpare kind ≡ false → goesLong kind player t held ≡ true
+  goes-long-always has = rw has
+
+  -- the length of what goes out
+  pub sent-length : memorySize kind ≤ length (held .memory)
+      → length (ended (dumpBody kind t (bytesOut kind player t held))) ≡ wholeLength kind (goesLong kind player t held) dump (typeFor t)
+  unfolding bodyLength
+  sent-length m =
+      let bytes = bytesOut kind player t held in
+      let long = goesLong kind player t held in
+      let inside = named-inside kind player t there in
+      length-append (dumpBody kind t bytes) (0xF7 ∷ [])
+      ∙ ap (λ (n : ℕ). n + 1) (data-behind kind t bytes .0 ∙ ap (λ (n : ℕ). dataPlace (typeFor t) + n)
+      (ap (λ (n : ℕ). 2 * n) (out-length kind player t held (omega arith)) ∙ sym (halves-sent kind long t)))
 
 -- "13 is for a length that is neither"
 module _ (kind : Kind) (settings : Settings) (body : List ℕ) where

@@ -48,7 +48,7 @@ module _ (kind : Kind) (settings : Settings) (player : ℕ) (held : Held) where
   -- every dump, request and identity request is carried out
   dump-does : (t : Target) (long : Bool) (bytes body : List ℕ) → IsDump kind t long bytes body → Does body ≡ outcome Stored (storeIn kind player t long bytes held) []
   dump-does t long bytes body d =
-      let whole = data-behind kind settings body t bytes .0 ∙ ap (λ (n : ℕ). dataPlace (typeFor t) + 2 * n) (d .count) in
+      let whole = data-behind kind t bytes .0 ∙ ap (λ (n : ℕ). dataPlace (typeFor t) + 2 * n) (d .count) in
       rw (
         d .form,
         dump-judged kind settings bytes (d .whole-bytes) long (d .spare) t (d .there) (d .count),

@@ -2,7 +2,7 @@
 use Prim.Native.Nat.{ℕ, _+_, _-_, _*_, _≤_, _<_}
 use mathlib.Core.Bool.{Bool, true, false, cond}
 use mathlib.Core.List.{List}
-use mathlib.Core.Path.{_≡_, refl, ap, _∙_}
+use mathlib.Core.Path.{_≡_, refl, sym, _∙_}
 use native.Mathlib.Omega.{arith}
 use lib.ListN.{length, drop, replicate, length-drop, length-replicate}
 use lib.Seq.{length-take-le}
@@ -50,14 +50,20 @@ pub received-length : (kind : Kind) (t : Target) (long : Bool) (bytes : List ℕ
 received-length kind t true bytes e = e ∙ long-all kind t
 received-length kind t false bytes e = with-length (sizeOf kind) (size-bounds kind .0) (slotsFor t) bytes (e ∙ sent-slots kind false t) ∙ count-slots kind t
 
--- what goes out is no longer than what is named
+-- what goes out has the bytes of a dump of that length, no more than are named
+pub out-length : (kind : Kind) (player : ℕ) (t : Target) (held : Held) → placeFor kind player t + countFor kind t ≤ length (held .memory)
+    → length (bytesOut kind player t held) ≡ sentFor kind (goesLong kind player t held) t
+out-length kind player t held h = go (goesLong kind player t held)
+  where
+    whole : length (bytesIn kind player t held) ≡ countFor kind t
+    whole = length-take-le (countFor kind t) (drop (placeFor kind player t) (held .memory)) (simp length-drop (omega arith))
+
+    go : (long : Bool) → length (cond long (bytesIn kind player t held) (withoutSpares (sizeOf kind) (slotsFor t) (bytesIn kind player t held))) ≡ sentFor kind long t
+    go true = whole ∙ sym (long-all kind t)
+    go false = without-length (sizeOf kind) (size-bounds kind .0) (slotsFor t) _ (whole ∙ sym (count-slots kind t)) ∙ sym (sent-slots kind false t)
+
 pub out-most : (kind : Kind) (player : ℕ) (t : Target) (held : Held) → placeFor kind player t + countFor kind t ≤ length (held .memory) → length (bytesOut kind player t held) ≤ countFor kind t
-out-most kind player t held h =
-    let part = bytesIn kind player t held in
-    let whole = length-take-le (countFor kind t) (drop (placeFor kind player t) (held .memory)) (simp length-drop (omega arith)) in
-    let short = without-length (sizeOf kind) (size-bounds kind .0) (slotsFor t) part (omega (arith, count-slots kind t)) in
-    by (λ (bytes : List ℕ). length bytes ≤ countFor kind t) (goesLong kind player t held) part (withoutSpares (sizeOf kind) (slotsFor t) part)
-    (λ _. omega arith) (λ _. omega (arith, sent-slots kind false t, short-fewer kind t))
+out-most kind player t held h = omega (arith, out-length kind player t held h, sent-most kind (goesLong kind player t held) t)
 
 -- as many marks are there as were
 pub marked-length : (kind : Kind) (player : ℕ) (t : Target) (long : Bool) (marks : List ℕ) → slotFor player t + slotsFor t ≤ length marks

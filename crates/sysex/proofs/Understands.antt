@@ -41,7 +41,7 @@ begun (x ∷ start) (b ∷ body) t =
     λ i. same i ∷ rest i
 
 -- the half bytes of a dump
-halves-sent : (kind : Kind) (long : Bool) (t : Target) → dataCount kind long (typeFor t) ≡ 2 * sentFor kind long t
+pub halves-sent : (kind : Kind) (long : Bool) (t : Target) → dataCount kind long (typeFor t) ≡ 2 * sentFor kind long t
 halves-sent kind long (One p) = refl
 halves-sent kind long Edit = refl
 halves-sent kind long All = refl
@@ -189,16 +189,17 @@ module _ (kind : Kind) (settings : Settings) (body : List ℕ) where
   unfolding judgeOf
   meant = tested-cases Means (testsOf kind settings body) Refused (bodyOrder body) passed-meant (λ check _. unsaid check)
 
+-- a dump has its data behind its start
+pub data-behind : (kind : Kind) (t : Target) (bytes : List ℕ) → (length (dumpBody kind t bytes) ≡ dataPlace (typeFor t) + 2 * length bytes) × (drop (dataPlace (typeFor t)) (dumpBody kind t bytes) ≡ split bytes)
+data-behind kind (One p) bytes = (omega (arith, length-split bytes), refl)
+data-behind kind Edit bytes = (omega (arith, length-split bytes), refl)
+data-behind kind All bytes = (omega (arith, length-split bytes), refl)
+
 -- what an order needs of its body to be carried out
 module _ (kind : Kind) (settings : Settings) (body : List ℕ) where
-  pub data-behind : (t : Target) (bytes : List ℕ) → (length (dumpBody kind t bytes) ≡ dataPlace (typeFor t) + 2 * length bytes) × (drop (dataPlace (typeFor t)) (dumpBody kind t bytes) ≡ split bytes)
-  data-behind (One p) bytes = (omega (arith, length-split bytes), refl)
-  data-behind Edit bytes = (omega (arith, length-split bytes), refl)
-  data-behind All bytes = (omega (arith, length-split bytes), refl)
-
   has-data : (t : Target) (long : Bool) (bytes : List ℕ) → IsDump kind t long bytes body → HasData kind (typeFor t) (slotsFor t) body
   has-data t long bytes x =
-      let behind = data-behind t bytes in
+      let behind = data-behind kind t bytes in
       let whole : length body ≡ dataPlace (typeFor t) + 2 * (slotsFor t * sentSize kind long) = rw (x .form) (omega (arith, behind .0, x .count, sent-slots kind long t)) in
       (go long whole, rw (x .form, behind .1) (split-halves bytes (x .whole-bytes)))
     where
