@@ -45,7 +45,7 @@ use Rattle.demands.proofs.Marks.{slots-named}
 use Rattle.demands.proofs.InOrder.{in-order, checks-tested}
 use Rattle.demands.proofs.Exactly.{by-frame}
 
--- "then memory and marks are exactly those"
+-- "and then only what it names changes": memory and marks, byte by byte
 put-at : (place count i : ℕ) (bytes marks : List ℕ) → place ≤ length marks → i < length bytes → getD (putPart place count bytes marks) (place + i) 0 ≡ getD bytes i 0
 put-at place count i bytes marks h k =
     let front = length-take-le place marks h in
@@ -203,7 +203,7 @@ module _ (kind : Kind) (settings : Settings) (body : List ℕ) where
       let order = in-order (numbered (testsOf kind settings body)) _ _ 13 (done-not-refused kind settings player body held 13 (bodyOrder body) (passed-done body)) (checks-tested kind settings player held (testsOf kind settings body) body) in
       ((λ e. first-wrong (order .0 e)), (λ w. order .1 (wrong-first w)))
 
--- "nothing but a dump moves a mark"
+-- Nothing but a dump moves a mark, whoever sends it.
 module _ (kind : Kind) (settings : Settings) (player : ℕ) (held : Held) where
   abbrev Stays : Outcome → Type 0
   Stays o = o .held .marks ≡ held .marks

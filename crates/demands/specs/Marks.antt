@@ -16,7 +16,7 @@ use Rattle.sysex.specs.Judging.{isKnown}
 use Rattle.sysex.specs.Formats.{IsDump}
 use Rattle.podbox.specs.Box.{Delivered, FromPanel, FromList}
 
--- the bytes that a dump brings for program i of those it names: "A short dump stores 71 bytes, sets the spare byte to 0"; "a long one stores 72"
+-- the bytes that a dump brings for program i of those it names: "A short dump sets the spare byte to 0", behind the 71 that it has
 abbrev pub broughtFor : Kind → Bool → ℕ → List ℕ → List ℕ
 broughtFor kind long i bytes = cond long (partOf (i * sizeOf kind) (sizeOf kind) bytes) (partOf (i * (sizeOf kind - 1)) (sizeOf kind - 1) bytes ++ (0 ∷ []))
 
@@ -25,11 +25,11 @@ pub record DumpLeaves (kind : Kind) (player : ℕ) (t : Target) (long : Bool) (b
   pub each : (i : ℕ) → i < slotsFor t → partOf (placeFor kind player t + i * sizeOf kind) (sizeOf kind) (after .memory) ≡ broughtFor kind long i bytes
   pub else-stays : (k : ℕ) → (k < placeFor kind player t) ⊎ (placeFor kind player t + countFor kind t ≤ k) → getD (after .memory) k 0 ≡ getD (held .memory) k 0
   pub length-stays : length (after .memory) ≡ length (held .memory)
-  -- "clears the mark, for each program that it names; a long one .. sets it"
+  -- "and clears the mark"; a long one sets it
   pub mark : hasSpare kind ≡ true → (i : ℕ) → i < slotsFor t → getD (after .marks) (slotFor player t + i) 0 ≡ cond long 1 0
   pub marks-stay : (k : ℕ) → (k < slotFor player t) ⊎ (slotFor player t + slotsFor t ≤ k) → getD (after .marks) k 0 ≡ getD (held .marks) k 0
   pub marks-length : length (after .marks) ≡ length (held .marks)
-  -- "On a Bass box they are .. neither read nor written"
+  -- a kind without spare bytes has none to move
   pub none-moved : hasSpare kind ≡ false → after .marks ≡ held .marks
 
 -- "13 is for a length that is neither": a body with the header, and an opcode and a type that are known

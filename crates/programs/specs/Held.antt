@@ -76,7 +76,7 @@ storeIn kind player t long bytes held =
 abbrev pub goesLong : Kind → ℕ → Target → Held → Bool
 goesLong kind player t held = cond (hasSpare kind) (allSet (partOf (slotFor player t) (slotsFor t) (held .marks))) true
 
--- the bytes of the dump that goes out; "the spare bytes that were received stay in memory"
+-- the bytes of the dump that goes out: a short one leaves out spare bytes that were received, and they stay in memory
 abbrev pub bytesOut : Kind → ℕ → Target → Held → List ℕ
 bytesOut kind player t held =
     cond (goesLong kind player t held) (bytesIn kind player t held) (withoutSpares (sizeOf kind) (slotsFor t) (bytesIn kind player t held))

@@ -23,7 +23,7 @@ There (One p) = p ≤ lastProgram
 There Edit = Unit {0}
 There All = Unit {0}
 
--- a dump has all bytes of each program or, where they have a spare byte, all but that one: "72 or 71 bytes a program"
+-- a dump has all bytes of each program or, where they have a spare byte, all but that one: "142 half bytes a program, the paper's 71 bytes"
 pub record IsDump (kind : Kind) (t : Target) (long : Bool) (bytes body : List ℕ) : Type 0 where
   pub there : There t
   pub spare : long ≡ false → hasSpare kind ≡ true
