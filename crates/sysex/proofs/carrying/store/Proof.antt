@@ -81,7 +81,6 @@ sub-join-short c =
     let a = c .before .before .before .before .before .before .args in
     let s = c .before .before .size in
     let p = c .before .before .before .before .before .before .pre in
-    let inside = slots-inside (a .kind) (a .slot) (a .slots) (s .result) (now (a .memory)) (s .ensures) (p .0 .0) (p .1 .0) in
     let v = c .before .version-place in
     let from = v .result + 1 in
     let first = dataPlace (a .typed) in
@@ -93,7 +92,6 @@ part-join-short-start c =
     let a = c .before .before .before .before .before .before .args in
     let s = c .before .before .size in
     let p = c .before .before .before .before .before .before .pre in
-    let inside = slots-inside (a .kind) (a .slot) (a .slots) (s .result) (now (a .memory)) (s .ensures) (p .0 .0) (p .1 .0) in
     let v = c .before .version-place in
     let from = v .result + 1 in
     let first = dataPlace (a .typed) in
@@ -121,8 +119,6 @@ returns-2 : tie.Need-returns-2
 returns-2 c =
     let a = c .before .before .before .before .before .before .before .before .before .before .before .before .before .before .before .args in
     let s = c .before .before .before .before .before .before .before .before .before .before .before .size in
-    let p = c .before .before .before .before .before .before .before .before .before .before .before .before .before .before .before .pre in
-    let inside = slots-inside (a .kind) (a .slot) (a .slots) (s .result) (now (a .memory)) (s .ensures) (p .0 .0) (p .1 .0) in
     let v = c .before .before .before .before .before .before .before .before .before .before .version-place in
     let from = v .result + 1 in
     (refl, stored-short (a .kind) (a .typed) (a .slot) (a .slots) (s .result) from (now (a .body)) (now (a .memory)) (now (a .marks)) _ _ (s .ensures) (ap (λ (n : ℕ). n + 1) (v .ensures .0)) (c .before .before .before .before .before .before .before .before .before .if1 .left) (c .before .before .before .before .before .before .join-short .ensures) (c .before .before .mark2 .ensures))
