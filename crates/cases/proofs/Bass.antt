@@ -1,7 +1,7 @@
 -- The cases of a Bass box are given.
 use mathlib.Core.List.{List, _++_, map-append}
 use mathlib.Core.Path.{refl}
-use Rattle.kinds.specs.Kinds.{isKind, kindOf, numberOf, sizeOf, deviceOf, identityOf, takesProgramChange}
+use Rattle.kinds.specs.Kinds.{isKind, kindOf, numberOf, sizeOf, hasSpare, deviceOf, identityOf, takesProgramChange}
 use Rattle.controls.specs.Formulas.{numberBy, numberFor, mOf, nextFor}
 use Rattle.controls.specs.Table.{rows, rowOf, selections, effectOf, selected}
 use Rattle.controls.specs.Scaling.{scaleOf}
@@ -13,7 +13,7 @@ use Rattle.sockets.specs.Promise.{stepDoes, byteOf, directOf}
 use Rattle.sysex.specs.Forms.{bodyLength, isIdentity, isOurChannel}
 use Rattle.sysex.specs.Judging.{hasForm, hasProgram, furtherTests, orderOf, bodyOrder}
 use Rattle.sysex.specs.Carrying.{orderDoes}
-use Rattle.podbox.specs.Settings.{isValid, freshSettings, freshHeld}
+use Rattle.podbox.specs.Settings.{isValid, areMarks, freshSettings, freshHeld}
 use Rattle.podbox.specs.Messages.{isHeard, isController, isProgramChange, channelDoes, messageDoes}
 use Rattle.podbox.specs.Whole.{isFramed, messageOrder}
 use Rattle.cases.specs.Case.{Case, AllGiven}
@@ -24,23 +24,23 @@ both-given : (xs ys : List Case) → AllGiven xs → AllGiven ys → AllGiven (x
 both-given xs ys e f = rw (map-append _ xs ys, map-append _ xs ys, e, f)
 
 forms-given : AllGiven forms
-unfolding forms isKind kindOf numberOf sizeOf deviceOf identityOf takesProgramChange scaleOf applyOf storeRow backOf shownOf numberBy numberFor mOf nextFor rowOf rows effectOf selections selected freshSettings freshHeld soundOf isWritten countRight runningRight waitingRight longIsFull takesOne takesTwo stepOf stepDoes byteOf directOf bodyLength isIdentity hasForm hasProgram furtherTests bodyOrder orderOf orderDoes isValid isHeard isController isProgramChange isOurChannel channelDoes messageDoes isFramed messageOrder
+unfolding forms isKind kindOf numberOf sizeOf hasSpare deviceOf identityOf takesProgramChange scaleOf applyOf storeRow backOf shownOf numberBy numberFor mOf nextFor rowOf rows effectOf selections selected freshSettings freshHeld soundOf isWritten countRight runningRight waitingRight longIsFull takesOne takesTwo stepOf stepDoes byteOf directOf bodyLength isIdentity hasForm hasProgram furtherTests bodyOrder orderOf orderDoes isValid areMarks isHeard isController isProgramChange isOurChannel channelDoes messageDoes isFramed messageOrder
 forms-given = refl
 
 headers-given : AllGiven headers
-unfolding headers isKind kindOf numberOf sizeOf deviceOf identityOf takesProgramChange scaleOf applyOf storeRow backOf shownOf numberBy numberFor mOf nextFor rowOf rows effectOf selections selected freshSettings freshHeld soundOf isWritten countRight runningRight waitingRight longIsFull takesOne takesTwo stepOf stepDoes byteOf directOf bodyLength isIdentity hasForm hasProgram furtherTests bodyOrder orderOf orderDoes isValid isHeard isController isProgramChange isOurChannel channelDoes messageDoes isFramed messageOrder
+unfolding headers isKind kindOf numberOf sizeOf hasSpare deviceOf identityOf takesProgramChange scaleOf applyOf storeRow backOf shownOf numberBy numberFor mOf nextFor rowOf rows effectOf selections selected freshSettings freshHeld soundOf isWritten countRight runningRight waitingRight longIsFull takesOne takesTwo stepOf stepDoes byteOf directOf bodyLength isIdentity hasForm hasProgram furtherTests bodyOrder orderOf orderDoes isValid areMarks isHeard isController isProgramChange isOurChannel channelDoes messageDoes isFramed messageOrder
 headers-given = refl
 
 controllers-given : AllGiven controllers
-unfolding controllers isKind kindOf numberOf sizeOf deviceOf identityOf takesProgramChange scaleOf applyOf storeRow backOf shownOf numberBy numberFor mOf nextFor rowOf rows effectOf selections selected freshSettings freshHeld soundOf isWritten countRight runningRight waitingRight longIsFull takesOne takesTwo stepOf stepDoes byteOf directOf bodyLength isIdentity hasForm hasProgram furtherTests bodyOrder orderOf orderDoes isValid isHeard isController isProgramChange isOurChannel channelDoes messageDoes isFramed messageOrder
+unfolding controllers isKind kindOf numberOf sizeOf hasSpare deviceOf identityOf takesProgramChange scaleOf applyOf storeRow backOf shownOf numberBy numberFor mOf nextFor rowOf rows effectOf selections selected freshSettings freshHeld soundOf isWritten countRight runningRight waitingRight longIsFull takesOne takesTwo stepOf stepDoes byteOf directOf bodyLength isIdentity hasForm hasProgram furtherTests bodyOrder orderOf orderDoes isValid areMarks isHeard isController isProgramChange isOurChannel channelDoes messageDoes isFramed messageOrder
 controllers-given = refl
 
 changes-given : AllGiven changes
-unfolding changes isKind kindOf numberOf sizeOf deviceOf identityOf takesProgramChange scaleOf applyOf storeRow backOf shownOf numberBy numberFor mOf nextFor rowOf rows effectOf selections selected freshSettings freshHeld soundOf isWritten countRight runningRight waitingRight longIsFull takesOne takesTwo stepOf stepDoes byteOf directOf bodyLength isIdentity hasForm hasProgram furtherTests bodyOrder orderOf orderDoes isValid isHeard isController isProgramChange isOurChannel channelDoes messageDoes isFramed messageOrder
+unfolding changes isKind kindOf numberOf sizeOf hasSpare deviceOf identityOf takesProgramChange scaleOf applyOf storeRow backOf shownOf numberBy numberFor mOf nextFor rowOf rows effectOf selections selected freshSettings freshHeld soundOf isWritten countRight runningRight waitingRight longIsFull takesOne takesTwo stepOf stepDoes byteOf directOf bodyLength isIdentity hasForm hasProgram furtherTests bodyOrder orderOf orderDoes isValid areMarks isHeard isController isProgramChange isOurChannel channelDoes messageDoes isFramed messageOrder
 changes-given = refl
 
 kinds-given : AllGiven kinds
-unfolding kinds isKind kindOf numberOf sizeOf deviceOf identityOf takesProgramChange scaleOf applyOf storeRow backOf shownOf numberBy numberFor mOf nextFor rowOf rows effectOf selections selected freshSettings freshHeld soundOf isWritten countRight runningRight waitingRight longIsFull takesOne takesTwo stepOf stepDoes byteOf directOf bodyLength isIdentity hasForm hasProgram furtherTests bodyOrder orderOf orderDoes isValid isHeard isController isProgramChange isOurChannel channelDoes messageDoes isFramed messageOrder
+unfolding kinds isKind kindOf numberOf sizeOf hasSpare deviceOf identityOf takesProgramChange scaleOf applyOf storeRow backOf shownOf numberBy numberFor mOf nextFor rowOf rows effectOf selections selected freshSettings freshHeld soundOf isWritten countRight runningRight waitingRight longIsFull takesOne takesTwo stepOf stepDoes byteOf directOf bodyLength isIdentity hasForm hasProgram furtherTests bodyOrder orderOf orderDoes isValid areMarks isHeard isController isProgramChange isOurChannel channelDoes messageDoes isFramed messageOrder
 kinds-given = refl
 
 pub as-requested : AllGiven bass

@@ -10,7 +10,7 @@ use Rattle.ground.specs.Lists.{written}
 use Rattle.ground.specs.Tests.{tested, AllHold}
 use Rattle.ground.proofs.InOrder.{tested-cases}
 use Rattle.kinds.specs.declared.Kind.the-variants.{Pod}
-use Rattle.kinds.specs.Kinds.{isKind, kindOf, numberOf, sizeOf, deviceOf}
+use Rattle.kinds.specs.Kinds.{isKind, kindOf, numberOf, sizeOf, hasSpare, deviceOf}
 use Rattle.programs.specs.Memory.{editPlace}
 use Rattle.programs.specs.Held.{Held, Edit}
 use Rattle.controls.specs.Formulas.{numberBy, numberFor, nextFor}
@@ -23,7 +23,7 @@ use Rattle.sockets.specs.Promise.{stepDoes, byteOf, directOf}
 use Rattle.sysex.specs.Forms.{bodyLength, isIdentity, requestBody, dumpBody, ended}
 use Rattle.sysex.specs.Judging.{hasForm, hasProgram, furtherTests, orderOf, bodyOrder, judgeOf}
 use Rattle.sysex.specs.Carrying.{orderDoes}
-use Rattle.podbox.specs.Settings.{isValid, freshSettings, freshHeld}
+use Rattle.podbox.specs.Settings.{isValid, areMarks, freshSettings, freshHeld}
 use Rattle.podbox.specs.Messages.{isHeard, isController, channelDoes, messageDoes}
 use Rattle.podbox.specs.Whole.{isFramed, messageOrder}
 use Rattle.podbox.specs.Box.{takeTests, wholeTests}
@@ -62,12 +62,12 @@ taken entry =
     tested-cases (λ (t : Bool). t ≡ true → AllHold ts) ts (λ number. false) true (λ all e. all) (λ number f e. absurd (false≢true e))
 
 taken-whole : AllHold (wholeTests pod freshSettings (freshHeld Pod) (blank Pod))
-unfolding isKind kindOf numberOf sizeOf deviceOf freshSettings freshHeld isValid
-taken-whole = (refl, (refl, (refl, (refl, tt))))
+unfolding isKind kindOf numberOf sizeOf deviceOf freshSettings freshHeld isValid areMarks
+taken-whole = (refl, (refl, (refl, (refl, (refl, (refl, tt))))))
 
 -- controller 12 at 27 is applied
 pub refuses-controllers : ShutOut (Refuses EndsChannel)
-unfolding isKind kindOf numberOf sizeOf deviceOf freshSettings freshHeld soundOf isWritten countRight runningRight waitingRight longIsFull takesOne takesTwo stepOf isValid stepDoes byteOf isHeard isController channelDoes messageDoes applyOf storeRow rowOf rows numberBy numberFor nextFor effectOf selections selected
+unfolding isKind kindOf numberOf sizeOf deviceOf freshSettings freshHeld soundOf isWritten countRight runningRight waitingRight longIsFull takesOne takesTwo stepOf isValid areMarks stepDoes byteOf isHeard isController channelDoes messageDoes applyOf storeRow rowOf rows numberBy numberFor nextFor effectOf selections selected
 refuses-controllers =
     shut (Refuses EndsChannel) (λ bad.
     let z : 10 ≤ 3 = bad freshSettings 0 27 moving (taken moving refl) (0xB0, 12, 27, refl) in
@@ -75,7 +75,7 @@ refuses-controllers =
 
 -- a dump is stored
 pub refuses-dumps : ShutOut (Refuses EndsSysEx)
-unfolding isKind kindOf numberOf sizeOf deviceOf freshSettings freshHeld soundOf isWritten countRight runningRight waitingRight longIsFull takesOne takesTwo stepOf isValid stepDoes byteOf messageDoes bodyLength isIdentity hasForm hasProgram furtherTests bodyOrder orderOf judgeOf orderDoes
+unfolding isKind kindOf numberOf sizeOf hasSpare deviceOf freshSettings freshHeld soundOf isWritten countRight runningRight waitingRight longIsFull takesOne takesTwo stepOf isValid areMarks stepDoes byteOf messageDoes bodyLength isIdentity hasForm hasProgram furtherTests bodyOrder orderOf judgeOf orderDoes
 refuses-dumps =
     shut (Refuses EndsSysEx) (λ bad.
     let z : 10 ≤ 1 = bad freshSettings 0 0xF7 (inside dumped) (taken (inside dumped) refl) (length dumped, refl) in
@@ -85,7 +85,7 @@ pub refuses-everything : ShutOut (Refuses Ends)
 refuses-everything box keeps bad = refuses-controllers box keeps (λ settings socket byte entry all ends. bad settings socket byte entry all (inr ends))
 
 pub returns-zero : ShutOut ReturnsZero
-unfolding isKind kindOf numberOf sizeOf deviceOf freshSettings freshHeld soundOf isWritten countRight runningRight waitingRight longIsFull takesOne takesTwo stepOf isValid stepDoes byteOf isHeard isController channelDoes messageDoes applyOf storeRow rowOf rows numberBy numberFor nextFor effectOf selections selected
+unfolding isKind kindOf numberOf sizeOf deviceOf freshSettings freshHeld soundOf isWritten countRight runningRight waitingRight longIsFull takesOne takesTwo stepOf isValid areMarks stepDoes byteOf isHeard isController channelDoes messageDoes applyOf storeRow rowOf rows numberBy numberFor nextFor effectOf selections selected
 returns-zero =
     shut ReturnsZero (λ bad.
     let z : _≡_ {A = ℕ} 3 0 = bad freshSettings 0 27 moving (taken moving refl) (inr (0xB0, 12, 27, refl)) in
@@ -93,7 +93,7 @@ returns-zero =
 
 -- controller 12 at 27 stands in byte 8
 pub never-writes : ShutOut NeverWrites
-unfolding isKind kindOf numberOf sizeOf deviceOf freshSettings freshHeld soundOf isWritten countRight runningRight waitingRight longIsFull takesOne takesTwo stepOf isValid stepDoes byteOf isHeard isController channelDoes messageDoes applyOf storeRow rowOf rows numberBy numberFor nextFor effectOf selections selected
+unfolding isKind kindOf numberOf sizeOf deviceOf freshSettings freshHeld soundOf isWritten countRight runningRight waitingRight longIsFull takesOne takesTwo stepOf isValid areMarks stepDoes byteOf isHeard isController channelDoes messageDoes applyOf storeRow rowOf rows numberBy numberFor nextFor effectOf selections selected
 never-writes =
     shut NeverWrites (λ bad.
     let z : _≡_ {A = ℕ} 27 0 = ap model (bad freshSettings 0 27 moving (taken moving refl)) in
@@ -101,7 +101,7 @@ never-writes =
 
 -- the dump of the edit buffer begins with F0
 pub writes-no-reply : ShutOut WritesNone
-unfolding isKind kindOf numberOf sizeOf deviceOf freshSettings freshHeld soundOf isWritten countRight runningRight waitingRight longIsFull takesOne takesTwo stepOf isValid stepDoes byteOf messageDoes bodyLength isIdentity hasForm hasProgram furtherTests bodyOrder orderOf judgeOf orderDoes
+unfolding isKind kindOf numberOf sizeOf hasSpare deviceOf freshSettings freshHeld soundOf isWritten countRight runningRight waitingRight longIsFull takesOne takesTwo stepOf isValid areMarks stepDoes byteOf messageDoes bodyLength isIdentity hasForm hasProgram furtherTests bodyOrder orderOf judgeOf orderDoes
 writes-no-reply =
     shut WritesNone (λ bad.
     let z : _≡_ {A = ℕ} 0xF0 0 = ap (λ (told : List ℕ). getD told 0 0) (bad freshSettings 0 0xF7 (inside asking) (taken (inside asking) refl)) in
@@ -109,14 +109,14 @@ writes-no-reply =
 
 -- the panel's dump is stored
 pub refuses-whole : ShutOutWhole RefusesWhole
-unfolding isKind kindOf numberOf sizeOf deviceOf freshSettings freshHeld isValid directOf isFramed messageOrder bodyLength isIdentity hasForm hasProgram furtherTests bodyOrder orderOf orderDoes
+unfolding isKind kindOf numberOf sizeOf hasSpare deviceOf freshSettings freshHeld isValid areMarks directOf isFramed messageOrder bodyLength isIdentity hasForm hasProgram furtherTests bodyOrder orderOf orderDoes
 refuses-whole =
     shut-whole RefusesWhole (λ bad.
     let z : 10 ≤ 1 = bad freshSettings (ended dumped) (freshHeld Pod) (blank Pod) taken-whole in
     omega (arith, z))
 
 pub never-writes-whole : ShutOutWhole NeverWritesWhole
-unfolding isKind kindOf numberOf sizeOf deviceOf freshSettings freshHeld isValid directOf isFramed messageOrder bodyLength isIdentity hasForm hasProgram furtherTests bodyOrder orderOf orderDoes
+unfolding isKind kindOf numberOf sizeOf hasSpare deviceOf freshSettings freshHeld isValid areMarks directOf isFramed messageOrder bodyLength isIdentity hasForm hasProgram furtherTests bodyOrder orderOf orderDoes
 never-writes-whole =
     shut-whole NeverWritesWhole (λ bad.
     let z : _≡_ {A = ℕ} 1 0 = ap model (bad freshSettings (ended dumped) (freshHeld Pod) (blank Pod) taken-whole) in

@@ -4,7 +4,7 @@ use mathlib.Core.List.{List, [], _∷_}
 use lib.ListN.{replicate, set, take}
 use Rattle.kinds.specs.declared.Kind.{Kind}
 use Rattle.kinds.specs.Kinds.{numberOf, sizeOf}
-use Rattle.programs.specs.Memory.{memorySize}
+use Rattle.programs.specs.Memory.{memorySize, markCount}
 use Rattle.programs.specs.Held.{Held, heldOf}
 use Rattle.halves.specs.HalfBytes.{split}
 use Rattle.halves.specs.Moving.{movedNumber, joinInto}
@@ -22,6 +22,10 @@ use Rattle.podbox.specs.Box.{takeOf, wholeOf}
 
 abbrev pub zeros : ℕ → List ℕ
 zeros count = replicate count 0
+
+-- marks, all set
+abbrev pub ones : List ℕ
+ones = replicate markCount 1
 
 abbrev pub travels : ℕ → List ℕ
 travels byte = split (byte ∷ [])
@@ -67,7 +71,7 @@ module _ (kind : Kind) where
   called bytes = numbersOf bytes fresh (freshHeld kind) blank blank
 
   abbrev pub heldWith : ℕ → ℕ → Held
-  heldWith place byte = heldOf (set (zeros (memorySize kind)) place byte)
+  heldWith place byte = heldOf (set (zeros (memorySize kind)) place byte) ones
 
   -- what a fresh box is handed whole: the number, and the reply
   abbrev pub answer : List ℕ → Left

@@ -55,7 +55,7 @@ handedWith kindNumber lent = answerNumber (wholeOf kindNumber freshSettings [] (
 
 -- and with nothing lent at all
 abbrev pub nothingLent : ℕ → List ℕ
-nothingLent kindNumber = answerNumber (wholeOf kindNumber freshSettings [] (heldOf []) [] .answer) ∷ []
+nothingLent kindNumber = answerNumber (wholeOf kindNumber freshSettings [] (heldOf [] []) [] .answer) ∷ []
 
 -- whole messages
 unfoldable pub forms : List Case

@@ -43,7 +43,7 @@ lines =
     ended (requestBody Pod All) says SendAll ∷
     ended (identityBody 0x7F) says Identify 0x7F ∷
     -- cut one byte short, and without its F7
-    (take 152 (oneDump Pod) ++ (0xF7 ∷ [])) says Refused (Length 154) ∷
+    (take 152 (oneDump Pod) ++ (0xF7 ∷ [])) says Refused (Length 154 152) ∷
     take 153 (oneDump Pod) says Refused (Ours 0x01) ∷
     -- saved with a line feed at its end: the longest one is too long then
     (oneDump Pod ++ (0x0A ∷ [])) says Refused (Ours 0x01) ∷
@@ -54,7 +54,7 @@ lines =
     [] says Refused (Ours 0x01) ∷
     -- each other check, and the length of another type
     set (oneDump Pod) 6 3 says Refused OpcodeAndType ∷
-    set (ended (requestBody Pod All)) 6 0 says Refused (Length 9) ∷
+    set (ended (requestBody Pod All)) 6 0 says Refused (Length 9 9) ∷
     set (oneDump Pod) 7 0x24 says Refused (Program 0x23) ∷
     set (oneDump Pod) 8 1 says Refused (Version 0) ∷
     set (oneDump Pod) 152 0x10 says Refused (HalfBytes 0x0F) ∷
@@ -68,12 +68,12 @@ bassLines =
     everyDump BassPod says StoreAll ∷
     ended (requestBody BassPod (One 0x23)) says SendProgram 0x23 ∷
     ended (identityBody 0x7F) says Identify 0x7F ∷
-    (take 168 (oneDump BassPod) ++ (0xF7 ∷ [])) says Refused (Length 170) ∷
+    (take 168 (oneDump BassPod) ++ (0xF7 ∷ [])) says Refused (Length 170 170) ∷
     take 169 (oneDump BassPod) says Refused (Ours 0x02) ∷
     (everyDump BassPod ++ (0x0A ∷ [])) says Refused (TooLong 5769) ∷
     -- the length of another type
-    set (oneDump BassPod) 6 1 says Refused (Length 169) ∷
-    set (oneDump BassPod) 6 2 says Refused (Length 5769) ∷
+    set (oneDump BassPod) 6 1 says Refused (Length 169 169) ∷
+    set (oneDump BassPod) 6 2 says Refused (Length 5769 5769) ∷
     oneDump Pod says Refused (Ours 0x02) ∷
     everyDump Pod says Refused (Ours 0x02) ∷
     []
