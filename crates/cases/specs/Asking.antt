@@ -23,7 +23,7 @@ use Rattle.podbox.specs.Box.{takeOf, wholeOf}
 abbrev pub zeros : ℕ → List ℕ
 zeros count = replicate count 0
 
--- marks, all set
+-- the marks of a box, all set
 abbrev pub ones : List ℕ
 ones = replicate markCount 1
 

@@ -1,4 +1,4 @@
--- Req 06: "Our units send 142." Both lengths of a POD's dumps, the marks, and what goes out by them; and a Bass box, which has one length.
+-- Req 06: "Units that send 142." Both lengths of a POD's dumps, the marks, and what goes out by them; and a Bass box, which has one length.
 use Prim.Native.Nat.{ℕ, zero, suc, _-_}
 use mathlib.Core.List.{List, [], _∷_, _++_}
 use lib.ListN.{length, replicate, set}
@@ -9,7 +9,7 @@ use Rattle.kinds.specs.Kinds.{numberOf, sizeOf}
 use Rattle.programs.specs.Memory.{memorySize}
 use Rattle.programs.specs.Held.{Held, heldOf, Target, One, Edit, All}
 use Rattle.framing.specs.Receiver.{fresh, openedOf, holdingOf}
-use Rattle.sysex.specs.Forms.{typeFor, ppFor, longest, dumpStart, requestBody, dumpBody, ended}
+use Rattle.sysex.specs.Forms.{typeFor, ppFor, dumpStart, requestBody, dumpBody, ended}
 use Rattle.sysex.specs.Numbers.{answerNumber}
 use Rattle.podbox.specs.Settings.{freshSettings}
 use Rattle.podbox.specs.Box.{takeOf, wholeOf, movesOf}
@@ -169,7 +169,7 @@ sent =
     told Pod (risen Pod (but 5 0)) (asked Pod (One 5)) is leaving 2 (risen Pod (but 5 0)) ∷
     repliedOn Pod (risen Pod (but 36 0)) (asked Pod Edit) is dumped Pod Edit 71 ∷
     told Pod (risen Pod (but 36 0)) (asked Pod Edit) is leaving 2 (risen Pod (but 36 0)) ∷
-    -- "an all programs dump is long only if all 36 marks are set", "and the spare bytes that were received stay in memory"
+    -- "an all programs dump is long only if all 36 marks are set", and "the spare bytes that were received stay in memory"
     (length (dumpedAll Pod 71) ∷ length (dumpedAll Pod 72) ∷ []) is (5121 ∷ 5193 ∷ []) ∷
     repliedOn Pod (risen Pod ones) (asked Pod All) is dumpedAll Pod 72 ∷
     repliedOn Pod (risen Pod (but 36 0)) (asked Pod All) is dumpedAll Pod 72 ∷
