@@ -1,5 +1,4 @@
 -- The cases of a Bass box are given.
-use mathlib.Core.List.{List, _++_, map-append}
 use mathlib.Core.Path.{refl}
 use Rattle.kinds.specs.Kinds.{isKind, kindOf, numberOf, sizeOf, hasSpare, deviceOf, identityOf, takesProgramChange}
 use Rattle.controls.specs.Formulas.{numberBy, numberFor, mOf, nextFor}
@@ -16,12 +15,9 @@ use Rattle.sysex.specs.Carrying.{orderDoes}
 use Rattle.podbox.specs.Settings.{isValid, areMarks, freshSettings, freshHeld}
 use Rattle.podbox.specs.Messages.{isHeard, isController, isProgramChange, channelDoes, messageDoes}
 use Rattle.podbox.specs.Whole.{isFramed, messageOrder}
-use Rattle.cases.specs.Case.{Case, AllGiven}
+use Rattle.cases.specs.Case.{AllGiven}
 use Rattle.cases.specs.Bass.{forms, headers, controllers, changes, kinds, bass}
-
--- one table behind the other
-both-given : (xs ys : List Case) → AllGiven xs → AllGiven ys → AllGiven (xs ++ ys)
-both-given xs ys e f = rw (map-append _ xs ys, map-append _ xs ys, e, f)
+use Rattle.cases.proofs.Case.{both-given}
 
 forms-given : AllGiven forms
 unfolding forms isKind kindOf numberOf sizeOf hasSpare deviceOf identityOf takesProgramChange scaleOf applyOf storeRow backOf shownOf numberBy numberFor mOf nextFor rowOf rows effectOf selections selected freshSettings freshHeld soundOf isWritten countRight runningRight waitingRight longIsFull takesOne takesTwo stepOf stepDoes byteOf directOf bodyLength isIdentity hasForm hasProgram furtherTests bodyOrder orderOf orderDoes isValid areMarks isHeard isController isProgramChange isOurChannel channelDoes messageDoes isFramed messageOrder

@@ -1,3 +1,4 @@
+pub mod Case
 pub mod Marked
 pub mod Raised
 pub mod Bass
@@ -6,3 +7,4 @@ pub mod ShutOut
 pub mod Unwritten
 pub mod FirstAlone
 pub mod Scenes
+pub mod Short

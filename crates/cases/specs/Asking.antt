@@ -23,7 +23,7 @@ use Rattle.podbox.specs.Box.{takeOf, wholeOf}
 abbrev pub zeros : ℕ → List ℕ
 zeros count = replicate count 0
 
--- marks, all set
+-- the marks of a box, all set
 abbrev pub ones : List ℕ
 ones = replicate markCount 1
 
@@ -73,12 +73,18 @@ module _ (kind : Kind) where
   abbrev pub heldWith : ℕ → ℕ → Held
   heldWith place byte = heldOf (set (zeros (memorySize kind)) place byte) ones
 
-  -- what a fresh box is handed whole: the number, and the reply
-  abbrev pub answer : List ℕ → Left
-  answer message = wholeOf (numberOf kind) freshSettings message (freshHeld kind) blank
+  -- what a box that holds this is handed whole: the number, and the reply; and a fresh box
+  abbrev pub answerOn : Held → List ℕ → Left
+  answerOn held message = wholeOf (numberOf kind) freshSettings message held blank
+
+  abbrev pub handedOn : Held → List ℕ → List ℕ
+  handedOn held message = answerNumber (answerOn held message .answer) ∷ []
+
+  abbrev pub repliedOn : Held → List ℕ → List ℕ
+  repliedOn held message = let l = answerOn held message in take (answerLength (l .answer)) (l .reply)
 
   abbrev pub handed : List ℕ → List ℕ
-  handed message = answerNumber (answer message .answer) ∷ []
+  handed message = handedOn (freshHeld kind) message
 
   abbrev pub replied : List ℕ → List ℕ
-  replied message = let l = answer message in take (answerLength (l .answer)) (l .reply)
+  replied message = repliedOn (freshHeld kind) message

@@ -6,3 +6,4 @@ pub mod Bass
 pub mod Why
 pub mod ShutOut
 pub mod Scenes
+pub mod Short

@@ -42,8 +42,8 @@ listed kind count moves = let l = scene kind count moves in answerNumber (l .ans
 abbrev pub editAt : Kind → Held → List ℕ → List ℕ
 editAt kind held places = map (λ (place : ℕ). getD (bytesIn kind panel Edit held) place 0) places
 
--- what a list of so many moves is answered where a call brings this number and these settings, and so many bytes are lent of memory and for the numbers; no marks are
--- asked
+-- what a list of so many moves is answered where a call brings this number and these settings, and so many bytes are lent of memory and for the numbers;
+-- it asks for no marks
 abbrev pub answeredWith : ℕ → ℕ → Settings → ℕ → ℕ → List ℕ
 answeredWith count kindNumber settings memory numbers =
     answerNumber (movesOf kindNumber settings (replicate count (move 12 5)) (heldOf (zeros memory) []) (zeros numbers) .answer) ∷ []
