@@ -55,16 +55,19 @@ fn handed(
     if reply.len() < sysex::longest(kind) {
         return sysex::refused(30);
     }
-    if settings::are_in_range(settings, marks) {
-        return framed(
-            message,
-            settings::PANEL,
-            kind,
-            settings,
-            memory,
-            marks,
-            reply,
-        );
+    if settings::are_valid(settings) {
+        if settings::are_marks(marks) {
+            return framed(
+                message,
+                settings::PANEL,
+                kind,
+                settings,
+                memory,
+                marks,
+                reply,
+            );
+        }
+        return sysex::refused(32);
     }
     sysex::refused(32)
 }

@@ -1,6 +1,5 @@
 // The lengths that serve a box of any kind, the settings of a fresh one, and whether settings are in range.
 ghost use mathlib.Core.Path.{_≡_};
-ghost use mathlib.Core.Bool.{_&&_};
 ghost use Rattle.podbox.specs.Settings.{isValid, areMarks};
 ghost use Rattle.podbox.specs.Private.{HoldsMarks};
 ghost use Rattle.podbox.specs.Box.{limit};
@@ -39,15 +38,12 @@ pub(crate) fn limit(kind: Kind) -> u16
     (sysex::longest(kind) - 1) as u16
 }
 
-// Settings, and the box's own marks, each of them 0 or 1.
-pub(crate) fn are_in_range(settings: Settings, marks: &[u8]) -> bool
+// The box's own marks, each of them 0 or 1.
+pub(crate) fn are_marks(marks: &[u8]) -> bool
     requires { ⌜ HoldsMarks (now marks) ⌝ }
-    ensures { λ r. ⌜ r ≡ (isValid settings && areMarks (now (marks .entry))) ⌝ }
+    ensures { λ r. ⌜ r ≡ areMarks (now (marks .entry)) ⌝ }
 {
-    if are_valid(settings) {
-        return halves::all_at_most(&marks[..MARKS], 1);
-    }
-    false
+    halves::all_at_most(&marks[..MARKS], 1)
 }
 
 pub(crate) fn are_valid(settings: Settings) -> bool

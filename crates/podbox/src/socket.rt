@@ -142,7 +142,10 @@ fn is_ready(receiver: Receiver, limit: u16, settings: Settings, marks: &[u8]) ->
     ensures { λ r. ⌜ r ≡ (soundOf limit receiver && (isValid settings && areMarks (now (marks .entry)))) ⌝ }
 {
     if framing::sound(receiver, limit) {
-        return settings::are_in_range(settings, marks);
+        if settings::are_valid(settings) {
+            return settings::are_marks(marks);
+        }
+        return false;
     }
     false
 }

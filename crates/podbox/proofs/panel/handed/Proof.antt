@@ -1,7 +1,7 @@
 -- The tests are those of `handedTests`, in its order.
 use borrow.Author.Tests.{le-leb}
 use native.Mathlib.Omega.{arith}
-use Rattle.ground.proofs.Tests.{tests, cond-both}
+use Rattle.ground.proofs.Tests.{tests}
 use Rattle.sockets.specs.Promise.{directOf}
 use borrow.Author.Needs.{needs}
 use Rattle.podbox.proofs.panel.handed.Statement.{statement}
@@ -28,25 +28,30 @@ returns-3 c =
 
 framed-requires : tie.Need-framed-requires
 framed-requires c κs =
-    let long = rw (c .before .before .before .before .before .before .before .longest .ensures) at (c .before .before .before .before .before .before .if3 .left) in
-    let holds = rw (c .before .before .before .before .before .before .before .before .before .before .memory-size .ensures) at (c .before .before .before .before .before .before .before .before .before .if1 .left) in
+    let long = rw (c .before .before .before .before .before .before .before .before .before .longest .ensures) at (c .before .before .before .before .before .before .before .before .if3 .left) in
+    let holds = rw (c .before .before .before .before .before .before .before .before .before .before .before .before .memory-size .ensures) at (c .before .before .before .before .before .before .before .before .before .before .before .if1 .left) in
     (omega arith, omega arith, omega arith)
 
 returns-4 : tie.Need-returns-4
 unfolding directOf
 returns-4 c =
-    let long = rw (c .before .before .before .before .before .before .before .before .before .before .before .before .before .before .longest .ensures) at (c .before .before .before .before .before .before .before .before .before .before .before .before .before .if3 .left) in
-    let marked = c .before .before .before .before .before .before .before .before .before .before .before .before .before .before .before .if2 .left in
-    let holds = rw (c .before .before .before .before .before .before .before .before .before .before .before .before .before .before .before .before .before .memory-size .ensures) at (c .before .before .before .before .before .before .before .before .before .before .before .before .before .before .before .before .if1 .left) in
-    rw (le-leb _ _ holds, le-leb _ _ marked, le-leb _ _ long, cond-both, ← c .before .before .before .before .before .before .before .before .before .before .before .are-in-range .ensures, c .before .before .before .before .before .before .before .before .before .before .if4 .taken) (c .before .before .before .before .before .before .framed .ensures)
+    let long = rw (c .before .before .before .before .before .before .before .before .before .before .before .before .before .before .before .before .longest .ensures) at (c .before .before .before .before .before .before .before .before .before .before .before .before .before .before .before .if3 .left) in
+    let holds = rw (c .before .before .before .before .before .before .before .before .before .before .before .before .before .before .before .before .before .before .before .memory-size .ensures) at (c .before .before .before .before .before .before .before .before .before .before .before .before .before .before .before .before .before .before .if1 .left) in
+    rw (le-leb _ _ holds, le-leb _ _ (c .before .before .before .before .before .before .before .before .before .before .before .before .before .before .before .before .before .if2 .left), le-leb _ _ long, ← c .before .before .before .before .before .before .before .before .before .before .before .before .before .before .are-valid .ensures, c .before .before .before .before .before .before .before .before .before .before .before .before .before .if4 .taken, ← c .before .before .before .before .before .before .before .before .before .before .before .are-marks .ensures, c .before .before .before .before .before .before .before .before .before .before .if5 .taken) (c .before .before .before .before .before .before .framed .ensures)
 
 returns-5 : tie.Need-returns-5
 unfolding directOf
 returns-5 c =
-    let long = rw (c .before .before .before .before .before .longest .ensures) at (c .before .before .before .before .if3 .left) in
-    let marked = c .before .before .before .before .before .before .if2 .left in
-    let holds = rw (c .before .before .before .before .before .before .before .before .memory-size .ensures) at (c .before .before .before .before .before .before .before .if1 .left) in
-    rw (le-leb _ _ holds, le-leb _ _ marked, le-leb _ _ long, cond-both, ← c .before .before .are-in-range .ensures, c .before .if4 .left, c .refused4 .ensures)
+    let long = rw (c .before .before .before .before .before .before .before .longest .ensures) at (c .before .before .before .before .before .before .if3 .left) in
+    let holds = rw (c .before .before .before .before .before .before .before .before .before .before .memory-size .ensures) at (c .before .before .before .before .before .before .before .before .before .if1 .left) in
+    rw (le-leb _ _ holds, le-leb _ _ (c .before .before .before .before .before .before .before .before .if2 .left), le-leb _ _ long, ← c .before .before .before .before .before .are-valid .ensures, c .before .before .before .before .if4 .taken, ← c .before .before .are-marks .ensures, c .before .if5 .left, c .refused4 .ensures)
+
+returns-6 : tie.Need-returns-6
+unfolding directOf
+returns-6 c =
+    let long = rw (c .before .before .before .before .longest .ensures) at (c .before .before .before .if3 .left) in
+    let holds = rw (c .before .before .before .before .before .before .before .memory-size .ensures) at (c .before .before .before .before .before .before .if1 .left) in
+    rw (le-leb _ _ holds, le-leb _ _ (c .before .before .before .before .before .if2 .left), le-leb _ _ long, ← c .before .before .are-valid .ensures, c .before .if4 .left, c .refused5 .ensures)
 
 pub handed-spec : {M : Type 1} → statement M
 handed-spec =
@@ -61,6 +66,7 @@ handed-spec =
     (λ c κs. search needs)
     returns-3
     (λ c κs. search needs)
+    (λ c κs. search needs)
     framed-requires
     (λ c. search needs)
     (λ c. search needs)
@@ -68,4 +74,6 @@ handed-spec =
     returns-4
     (λ c κs. search needs)
     (λ c. search needs)
-    returns-5)
+    returns-5
+    (λ c κs. search needs)
+    returns-6)
