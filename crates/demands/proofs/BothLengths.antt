@@ -17,10 +17,10 @@ use Rattle.kinds.specs.declared.Kind.{Kind}
 use Rattle.kinds.specs.Kinds.{sizeOf, hasSpare, headerOf, kindOf}
 use Rattle.kinds.proofs.AnyKind.{size-bounds}
 use Rattle.programs.specs.Memory.{memorySize, markCount, partOf, putPart}
-use Rattle.programs.specs.Spares.{allSet}
-use Rattle.programs.specs.Held.{Held, Target, placeFor, countFor, slotFor, slotsFor, received, storeIn, goesLong, bytesOut}
-use Rattle.programs.proofs.Parts.{put-before, put-behind, put-length, part-in-put}
-use Rattle.programs.proofs.Spares.{with-at}
+use Rattle.programs.specs.Spares.{withoutSpares, allSet}
+use Rattle.programs.specs.Held.{Held, Target, placeFor, countFor, bytesIn, slotFor, slotsFor, sentSize, received, storeIn, goesLong, bytesOut}
+use Rattle.programs.proofs.Parts.{put-before, put-behind, put-length, part-in-put, part-in-part}
+use Rattle.programs.proofs.Spares.{with-at, without-at}
 use Rattle.programs.proofs.Slots.{count-slots, sent-slots, received-length, out-length, marked-length}
 use Rattle.sockets.specs.Framer.{Message, SysEx, TooLong, Channel}
 use Rattle.sockets.specs.Calls.{Finish, FromSocket, FromDirect}
@@ -64,8 +64,8 @@ module _ (kind : Kind) (player : ℕ) (held : Held) (m : memorySize kind ≤ len
   abbrev after : Held
   after = storeIn kind player t long bytes held
 
-  slots-inside : slot + slots ≤ length (held .marks)
-  slots-inside = omega (arith, slots-named player t (d .there))
+  marks-inside : slot + slots ≤ length (held .marks)
+  marks-inside = omega (arith, slots-named player t (d .there))
 
   -- program i of what the dump's bytes become
   brought : (b : Bool) → length bytes ≡ slots * cond b (sizeOf kind) (sizeOf kind - 1) → (i : ℕ) → i < slots
@@ -90,11 +90,11 @@ module _ (kind : Kind) (player : ℕ) (held : Held) (m : memorySize kind ≤ len
             ∙ brought long (d .count ∙ sent-slots kind long t) i h;
         else-stays = λ n. ⊎-elim (put-before place count (received kind t long bytes) (held .memory) fits whole n) (put-behind place count (received kind t long bytes) (held .memory) fits whole n);
         length-stays = put-length place count (received kind t long bytes) (held .memory) fits whole;
-        mark = λ has i h. rw has (put-at slot slots i ones (held .marks) (omega (arith, slots-inside)) (omega arith) ∙ getD-replicate slots i (cond long 1 0) 0 h);
+        mark = λ has i h. rw has (put-at slot slots i ones (held .marks) (omega (arith, marks-inside)) (omega arith) ∙ getD-replicate slots i (cond long 1 0) 0 h);
         marks-stay = λ n outside. by (λ (marks : List ℕ). getD marks n 0 ≡ getD (held .marks) n 0) (hasSpare kind) _ _
-            (λ _. ⊎-elim (put-before slot slots ones (held .marks) slots-inside many n) (put-behind slot slots ones (held .marks) slots-inside many n) outside)
+            (λ _. ⊎-elim (put-before slot slots ones (held .marks) marks-inside many n) (put-behind slot slots ones (held .marks) marks-inside many n) outside)
             (λ _. refl);
-        marks-length = marked-length kind player t long (held .marks) slots-inside;
+        marks-length = marked-length kind player t long (held .marks) marks-inside;
         none-moved = λ has. rw has;
       }
 
@@ -140,6 +140,32 @@ module _ (kind : Kind) (player : ℕ) (held : Held) (t : Target) (there : There 
       length-append (dumpBody kind t bytes) (0xF7 ∷ [])
       ∙ ap (λ (n : ℕ). n + 1) (data-behind kind t bytes .0 ∙ ap (λ (n : ℕ). dataPlace (typeFor t) + n)
       (ap (λ (n : ℕ). 2 * n) (out-length kind player t held (omega arith)) ∙ sym (halves-sent kind long t)))
+
+  -- each program of it, with or without its spare byte, as it stands in memory
+  pub sent-each : memorySize kind ≤ length (held .memory) → (i : ℕ) → i < slotsFor t
+      → (let count = sentSize kind (goesLong kind player t held) in
+      partOf (i * count) count (bytesOut kind player t held) ≡ partOf (placeFor kind player t + i * sizeOf kind) count (held .memory))
+  sent-each m i h = go (goesLong kind player t held)
+    where
+      fits : placeFor kind player t + countFor kind t ≤ length (held .memory)
+      fits = omega (arith, named-inside kind player t there)
+
+      within : i * sizeOf kind + sizeOf kind ≤ countFor kind t
+      within =
+          let upto : suc i ≤ slotsFor t = omega arith in
+          let most = mul-le-mul-right (sizeOf kind) upto in
+          omega (arith, suc-mul i (sizeOf kind), count-slots kind t)
+
+      whole : length (bytesIn kind player t held) ≡ slotsFor t * sizeOf kind
+      whole = length-take-le (countFor kind t) (drop (placeFor kind player t) (held .memory)) (simp length-drop (omega (arith, fits))) ∙ sym (count-slots kind t)
+
+      go : (long : Bool) → (let count = sentSize kind long in
+          partOf (i * count) count (cond long (bytesIn kind player t held) (withoutSpares (sizeOf kind) (slotsFor t) (bytesIn kind player t held)))
+          ≡ partOf (placeFor kind player t + i * sizeOf kind) count (held .memory))
+      go true = part-in-part (placeFor kind player t) (countFor kind t) (i * sizeOf kind) (sizeOf kind) (held .memory) fits within
+      go false =
+          without-at (sizeOf kind) (size-bounds kind .0) (slotsFor t) i (bytesIn kind player t held) h whole
+          ∙ part-in-part (placeFor kind player t) (countFor kind t) (i * sizeOf kind) (sizeOf kind - 1) (held .memory) fits (omega (arith, within))
 
 -- "13 is for a length that is neither"
 module _ (kind : Kind) (settings : Settings) (body : List ℕ) where

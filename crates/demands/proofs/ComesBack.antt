@@ -1,5 +1,5 @@
 -- "taking dumps in and giving them out": after a dump was stored the request of the same type and program is answered by that very dump, long or short.
-use Prim.Native.Nat.{ℕ, suc, _+_, _*_, _≤_}
+use Prim.Native.Nat.{ℕ, _≤_}
 use mathlib.Core.Bool.{Bool, true, false, cond}
 use mathlib.Core.List.{List}
 use mathlib.Core.Path.{_≡_, refl, sym, ap, _∙_}
@@ -8,7 +8,7 @@ use lib.ListN.{length, replicate, length-replicate}
 use Rattle.kinds.specs.declared.Kind.{Kind}
 use Rattle.kinds.specs.Kinds.{sizeOf, hasSpare}
 use Rattle.kinds.proofs.AnyKind.{size-bounds}
-use Rattle.programs.specs.Memory.{memorySize, markCount, partOf, putPart}
+use Rattle.programs.specs.Memory.{memorySize, markCount}
 use Rattle.programs.specs.Spares.{withoutSpares, allSet}
 use Rattle.programs.specs.Held.{Held, Target, One, Edit, All, placeFor, countFor, bytesIn, slotFor, slotsFor, sentFor, received, storeIn, goesLong, bytesOut}
 use Rattle.programs.proofs.Parts.{part-put}

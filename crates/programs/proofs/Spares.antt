@@ -8,8 +8,6 @@ use native.Mathlib.Omega.{arith}
 use lib.ListN.{length, getD, take, drop, set, replicate, length-append, length-drop, drop-of-length-le, take-append-drop}
 use lib.Seq.{length-take-le, take-all, take-at, drop-at, drop-drop, append-snoc}
 use borrow.Author.Tests.{ne-eqb, eq-eqb}
-use Rattle.ground.specs.Lists.{allAtMost}
-use Rattle.ground.proofs.AtMost.{at-most-take, at-most-drop, at-most-append}
 use Rattle.ground.proofs.Lists.{drop-one}
 use Rattle.programs.specs.Spares.{withSpares, withoutSpares, allSet}
 
@@ -79,13 +77,24 @@ module _ (size : ℕ) (some : 1 ≤ size) where
       rw (far, near, first-stored n bytes, ← drop-drop (i * size) size (stored bytes ++ rest), behind, ← drop-drop (i * (size - 1)) (size - 1) bytes)
       (with-at n i (drop (size - 1) bytes) (omega arith) (r .1))
 
--- what is stored are bytes where the dump's are
-pub with-bytes : (size n : ℕ) (bytes : List ℕ) → allAtMost 0xFF bytes ≡ true → allAtMost 0xFF (withSpares size n bytes) ≡ true
-unfolding withSpares
-with-bytes size zero bytes t = refl
-with-bytes size (suc n) bytes t =
-    at-most-append 0xFF (take (size - 1) bytes) (0 ∷ withSpares size n (drop (size - 1) bytes)) (at-most-take 0xFF (size - 1) bytes t)
-    (with-bytes size n (drop (size - 1) bytes) (at-most-drop 0xFF (size - 1) bytes t))
+  -- program i of what is sent
+  pub without-at : (n i : ℕ) (bytes : List ℕ) → i < n → length bytes ≡ n * size
+      → take (size - 1) (drop (i * (size - 1)) (withoutSpares size n bytes)) ≡ take (size - 1) (drop (i * size) bytes)
+  unfolding withoutSpares
+  without-at zero i bytes h e = absurd (omega arith)
+  without-at (suc n) zero bytes h e =
+      let m = more n in
+      let front = length-take-le (size - 1) bytes (omega arith) in
+      rw (zero-mul size, zero-mul (size - 1)) (take-at (take (size - 1) bytes) (withoutSpares size n (drop size bytes)) (size - 1) front)
+  without-at (suc n) (suc i) bytes h e =
+      let m = more n in
+      let k = more i in
+      let rest = withoutSpares size n (drop size bytes) in
+      let far : suc i * size ≡ size + i * size = omega arith in
+      let near : suc i * (size - 1) ≡ (size - 1) + i * (size - 1) = omega arith in
+      let front = length-take-le (size - 1) bytes (omega arith) in
+      rw (far, near, ← drop-drop (i * (size - 1)) (size - 1) (take (size - 1) bytes ++ rest), drop-at (take (size - 1) bytes) rest (size - 1) front, ← drop-drop (i * size) size bytes)
+      (without-at n i (drop size bytes) (omega arith) (simp length-drop (omega arith)))
 
 pub all-set-ones : (n : ℕ) → allSet (replicate n 1) ≡ true
 all-set-ones zero = refl

@@ -40,7 +40,7 @@ bytesIn kind player t held = partOf (placeFor kind player t) (countFor kind t) (
 abbrev pub putIn : Kind → ℕ → Target → List ℕ → Held → Held
 putIn kind player t bytes held = heldOf (putPart (placeFor kind player t) (countFor kind t) bytes (held .memory)) (held .marks)
 
--- its marks, in the order of memory: the first, and how many
+-- its slots, in the order of memory and of the marks: the first, and how many
 abbrev pub slotFor : ℕ → Target → ℕ
 slotFor player (One p) = p
 slotFor player Edit = editSlot player

@@ -5,8 +5,7 @@ use mathlib.Core.List.{List, [], _∷_, _++_}
 use lib.Dec.{eqb}
 use lib.ListN.{take, drop}
 
--- "142 half bytes a program, the paper's 71 bytes": n programs of `size` bytes, of which the last is spare, as a short dump has them
--- "A short dump sets the spare byte to 0": a 0 behind the bytes of each program
+-- n programs of `size` bytes, of which the last is spare. "A short dump sets the spare byte to 0": a 0 behind the bytes of each program
 unfoldable pub withSpares : ℕ → ℕ → List ℕ → List ℕ
 withSpares size zero bytes = []
 withSpares size (suc n) bytes = take (size - 1) bytes ++ (0 ∷ withSpares size n (drop (size - 1) bytes))

@@ -28,10 +28,10 @@ use Rattle.sysex.specs.Carrying.{sending, answering, storing, bodyDoes, 
 use Rattle.sysex.specs.Private.{slotsLong, slotsSent, slotsMarked, slotsStored}
 
 -- the dump of the slots that are named is the answer to their request
-pub sent-slots : (kind : Kind) (player : ℕ) (t : Target) (slot : ℕ) (held : Held) (reply : List ℕ) → slot ≡ slotFor player t
+pub slots-sent : (kind : Kind) (player : ℕ) (t : Target) (slot : ℕ) (held : Held) (reply : List ℕ) → slot ≡ slotFor player t
     → slotsSent kind (typeFor t) (ppFor t) slot (slotsFor t) held reply ≡ leaves (answering kind player t held) reply
 unfolding slotsLong
-sent-slots kind player t slot held reply e =
+slots-sent kind player t slot held reply e =
     let place = ap (λ (n : ℕ). n * sizeOf kind) e ∙ place-slots kind player t in
     let count = count-slots kind t in
     let out : Bool → List ℕ → List ℕ = λ long part. cond long part (withoutSpares (sizeOf kind) (slotsFor t) part) in
@@ -39,10 +39,10 @@ sent-slots kind player t slot held reply e =
     (out (cond (hasSpare kind) (allSet (partOf (e i) (slotsFor t) (held .marks))) true) (partOf (place i) (count i) (held .memory))))) held) reply
 
 -- and a dump that is stored in them is what its message does
-pub stored-slots : (kind : Kind) (player : ℕ) (t : Target) (slot : ℕ) (body : List ℕ) (held : Held) → slot ≡ slotFor player t
+pub slots-stored : (kind : Kind) (player : ℕ) (t : Target) (slot : ℕ) (body : List ℕ) (held : Held) → slot ≡ slotFor player t
     → slotsStored kind (typeFor t) slot (slotsFor t) body held ≡ storing kind player t body held .held
 unfolding slotsMarked
-stored-slots kind player t slot body held e =
+slots-stored kind player t slot body held e =
     let place = ap (λ (n : ℕ). n * sizeOf kind) e ∙ place-slots kind player t in
     let count = count-slots kind t in
     let bytes = join (drop (dataPlace (typeFor t)) body) in

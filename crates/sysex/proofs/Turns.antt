@@ -18,9 +18,9 @@ one-less zero k h = absurd (omega arith)
 one-less (suc n) k h = let e : suc n - 1 ≡ n = omega arith in rw e (suc-mul n k)
 
 -- programs without their spare bytes are no longer
-pub short-fewer : (slots size : ℕ) → slots * (size - 1) ≤ slots * size
-short-fewer zero size = omega (arith, zero-mul size, zero-mul (size - 1))
-short-fewer (suc n) size = omega (arith, short-fewer n size, suc-mul n size, suc-mul n (size - 1))
+pub without-fewer : (slots size : ℕ) → slots * (size - 1) ≤ slots * size
+without-fewer zero size = omega (arith, zero-mul size, zero-mul (size - 1))
+without-fewer (suc n) size = omega (arith, without-fewer n size, suc-mul n size, suc-mul n (size - 1))
 
 -- none is left
 pub none-left : (left k : ℕ) → left ≤ 0 → left * k ≡ 0

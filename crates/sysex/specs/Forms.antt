@@ -66,7 +66,7 @@ bodyLength kind long opcode type = cond (eqb opcode request) (versionPlace type)
 abbrev pub wholeLength : Kind → Bool → ℕ → ℕ → ℕ
 wholeLength kind long opcode type = bodyLength kind long opcode type + 1
 
--- "On a POD box take both": a dump may be short where programs have a spare byte, else the shortest is long too
+-- "On a POD box take both": whether the shortest dump of a kind is long, as it is where programs have no spare byte
 abbrev pub shortest : Kind → Bool
 shortest kind = not (hasSpare kind)
 

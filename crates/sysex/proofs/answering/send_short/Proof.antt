@@ -4,7 +4,7 @@ use Prim.Native.Nat.{ℕ, _*_}
 use mathlib.Core.Path.{ap, sym, _∙_}
 use native.Mathlib.Omega.{arith}
 use Rattle.kinds.proofs.AnyKind.{size-bounds}
-use Rattle.sysex.proofs.Turns.{short-fewer}
+use Rattle.sysex.proofs.Turns.{without-fewer}
 use Rattle.sysex.proofs.Writing.{dumped-short}
 use borrow.Author.Needs.{needs}
 use Rattle.sysex.proofs.answering.send_short.Statement.{statement}
@@ -16,7 +16,7 @@ split-short-requires c κs =
     let a = c .before .before .before .before .before .before .before .before .before .args in
     let s = c .before .before .before .before .before .size in
     let count = p .0 .1 ∙ ap (λ (n : ℕ). a .slots * n) (sym (s .ensures)) in
-    ((omega (arith, s .ensures, size-bounds (a .kind) .0), count), omega (arith, p .1, c .before .before .before .begin .ensures .0, short-fewer (a .slots) (s .result), count))
+    ((omega (arith, s .ensures, size-bounds (a .kind) .0), count), omega (arith, p .1, c .before .before .before .begin .ensures .0, without-fewer (a .slots) (s .result), count))
 
 write-requires : tie.Need-write-requires
 write-requires c κs =
@@ -24,7 +24,7 @@ write-requires c κs =
     let a = c .before .before .before .before .before .before .before .before .before .before .before .before .before .before .args in
     let s = c .before .before .before .before .before .before .before .before .before .before .size in
     let count = p .0 .1 ∙ ap (λ (n : ℕ). a .slots * n) (sym (s .ensures)) in
-    omega (arith, p .1, c .before .before .before .before .before .before .before .before .begin .ensures .0, c .before .before .before .before .split-short .ensures .0, short-fewer (a .slots) (s .result), count)
+    omega (arith, p .1, c .before .before .before .before .before .before .before .before .begin .ensures .0, c .before .before .before .before .split-short .ensures .0, without-fewer (a .slots) (s .result), count)
 
 add-result : tie.Need-add-result
 add-result c =
@@ -32,7 +32,7 @@ add-result c =
     let a = c .before .before .before .before .before .before .before .before .before .before .before .before .before .before .before .before .before .args in
     let s = c .before .before .before .before .before .before .before .before .before .before .before .before .before .size in
     let count = p .0 .1 ∙ ap (λ (n : ℕ). a .slots * n) (sym (s .ensures)) in
-    omega (arith, p .1, c .before .before .before .before .before .before .before .before .before .before .before .begin .ensures .0, c .before .before .before .before .before .before .before .split-short .ensures .0, short-fewer (a .slots) (s .result), count)
+    omega (arith, p .1, c .before .before .before .before .before .before .before .before .before .before .before .begin .ensures .0, c .before .before .before .before .before .before .before .split-short .ensures .0, without-fewer (a .slots) (s .result), count)
 
 returns : tie.Need-returns
 returns c =

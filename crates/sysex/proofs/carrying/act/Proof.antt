@@ -7,7 +7,7 @@ use Rattle.kinds.proofs.AnyKind.{size-bounds}
 use Rattle.programs.specs.Held.{Held, heldOf, One, Edit, All}
 use Rattle.sysex.specs.declared.Answer.the-variants.{Stored, Sent}
 use Rattle.sysex.specs.Carrying.{orderDoes}
-use Rattle.sysex.proofs.Parts.{sent-slots, stored-slots}
+use Rattle.sysex.proofs.Parts.{slots-sent, slots-stored}
 use Rattle.sysex.proofs.Writing.{identity-length}
 use borrow.Author.Needs.{needs}
 use Rattle.sysex.proofs.carrying.act.Statement.{statement}
@@ -68,26 +68,26 @@ returns-2 : tie.Need-returns-2
 unfolding orderDoes
 returns-2 c =
     let a = c .before .before .before .before .before .before .before .before .before .before .before .before .before .before .before .args in
-    rw (c .before .before .before .before .before .before .before .before .order2 .given .1) (c .before .before .answer .ensures ∙ sent-slots (a .kind) (a .player) (One _) _ (heldOf (now (a .memory)) (now (a .marks))) (now (a .reply)) (refl))
+    rw (c .before .before .before .before .before .before .before .before .order2 .given .1) (c .before .before .answer .ensures ∙ slots-sent (a .kind) (a .player) (One _) _ (heldOf (now (a .memory)) (now (a .marks))) (now (a .reply)) (refl))
 
 returns-3 : tie.Need-returns-3
 unfolding orderDoes
 returns-3 c =
     let a = c .before .before .before .before .before .before .before .before .before .before .before .before .before .before .args in
-    rw (c .before .before .before .before .before .before .before .enum-told .given .1) (c .before .before .answer2 .ensures ∙ sent-slots (a .kind) (a .player) (Edit) _ (heldOf (now (a .memory)) (now (a .marks))) (now (a .reply)) (c .before .before .before .before .before .before .before .before .before .edit-slot .ensures))
+    rw (c .before .before .before .before .before .before .before .enum-told .given .1) (c .before .before .answer2 .ensures ∙ slots-sent (a .kind) (a .player) (Edit) _ (heldOf (now (a .memory)) (now (a .marks))) (now (a .reply)) (c .before .before .before .before .before .before .before .before .before .edit-slot .ensures))
 
 returns-4 : tie.Need-returns-4
 unfolding orderDoes
 returns-4 c =
     let a = c .before .before .before .before .before .before .before .before .before .before .before .before .before .before .args in
-    rw (c .before .before .before .before .before .before .before .enum-told2 .given .1) (c .before .before .answer3 .ensures ∙ sent-slots (a .kind) (a .player) (All) _ (heldOf (now (a .memory)) (now (a .marks))) (now (a .reply)) (refl))
+    rw (c .before .before .before .before .before .before .before .enum-told2 .given .1) (c .before .before .answer3 .ensures ∙ slots-sent (a .kind) (a .player) (All) _ (heldOf (now (a .memory)) (now (a .marks))) (now (a .reply)) (refl))
 
 returns-5 : tie.Need-returns-5
 unfolding orderDoes
 returns-5 c =
     let a = c .before .before .before .before .before .before .before .before .before .before .before .before .before .before .before .args in
     let e = c .before .before .before .before .store .ensures in
-    let after = e .1 ∙ stored-slots (a .kind) (a .player) (One _) _ (now (a .body)) (heldOf (now (a .memory)) (now (a .marks))) (refl) in
+    let after = e .1 ∙ slots-stored (a .kind) (a .player) (One _) _ (now (a .body)) (heldOf (now (a .memory)) (now (a .marks))) (refl) in
     rw (c .before .before .before .before .before .before .before .before .order3 .given .1, e .0) (ap (λ (held : Held). left Stored held (now (a .reply))) after)
 
 returns-6 : tie.Need-returns-6
@@ -95,7 +95,7 @@ unfolding orderDoes
 returns-6 c =
     let a = c .before .before .before .before .before .before .before .before .before .before .before .before .before .before .args in
     let e = c .before .before .before .before .store2 .ensures in
-    let after = e .1 ∙ stored-slots (a .kind) (a .player) (Edit) _ (now (a .body)) (heldOf (now (a .memory)) (now (a .marks))) (c .before .before .before .before .before .before .before .before .before .edit-slot .ensures) in
+    let after = e .1 ∙ slots-stored (a .kind) (a .player) (Edit) _ (now (a .body)) (heldOf (now (a .memory)) (now (a .marks))) (c .before .before .before .before .before .before .before .before .before .edit-slot .ensures) in
     rw (c .before .before .before .before .before .before .before .enum-told3 .given .1, e .0) (ap (λ (held : Held). left Stored held (now (a .reply))) after)
 
 returns-7 : tie.Need-returns-7
@@ -103,7 +103,7 @@ unfolding orderDoes
 returns-7 c =
     let a = c .before .before .before .before .before .before .before .before .before .before .before .before .before .before .args in
     let e = c .before .before .before .before .store3 .ensures in
-    let after = e .1 ∙ stored-slots (a .kind) (a .player) (All) _ (now (a .body)) (heldOf (now (a .memory)) (now (a .marks))) (refl) in
+    let after = e .1 ∙ slots-stored (a .kind) (a .player) (All) _ (now (a .body)) (heldOf (now (a .memory)) (now (a .marks))) (refl) in
     rw (c .before .before .before .before .before .before .before .enum-told4 .given .1, e .0) (ap (λ (held : Held). left Stored held (now (a .reply))) after)
 
 returns-8 : tie.Need-returns-8

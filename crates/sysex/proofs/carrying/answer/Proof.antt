@@ -12,7 +12,7 @@ use Rattle.kinds.specs.Kinds.{sizeOf}
 use Rattle.kinds.proofs.AnyKind.{size-bounds}
 use Rattle.programs.specs.Spares.{withoutSpares}
 use Rattle.programs.proofs.Spares.{without-length}
-use Rattle.sysex.proofs.Turns.{short-fewer}
+use Rattle.sysex.proofs.Turns.{without-fewer}
 use Rattle.sysex.proofs.Parts.{slots-inside, lent, lent-count, out-long, out-short, answered-by}
 use borrow.Author.Needs.{needs}
 use Rattle.sysex.proofs.carrying.answer.Statement.{statement}
@@ -110,7 +110,7 @@ cast-t29 c =
       c .before .before .send-short .ensures .0,
       dump-length (a .kind) (a .typed) (now (a .pp)) (withoutSpares (sizeOf (a .kind)) (a .slots) part),
       without-length (sizeOf (a .kind)) (size-bounds (a .kind) .0) (a .slots) part count,
-      short-fewer (a .slots) (sizeOf (a .kind)),
+      without-fewer (a .slots) (sizeOf (a .kind)),
     )
 
 returns-2 : tie.Need-returns-2

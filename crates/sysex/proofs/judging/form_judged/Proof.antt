@@ -1,7 +1,6 @@
 -- The tests are those of `formTests`, in its order.
 use borrow.Author.Tests.{le-leb}
 use mathlib.Core.Path.{sym, _∙_}
-use native.Mathlib.Omega.{arith}
 use Rattle.ground.proofs.Tests.{tests}
 use Rattle.sysex.proofs.Judged.{at-least}
 use borrow.Author.Needs.{needs}

@@ -1,6 +1,5 @@
 -- One of the two.
 use Rattle.ground.proofs.Tests.{tests}
-use borrow.Author.Needs.{needs}
 use Rattle.sysex.proofs.judging.is_either.Statement.{statement}
 use Rattle.sysex.proofs.judging.is_either.Tie as tie
 

@@ -1,7 +1,4 @@
 -- Short where the kind has spare bytes.
-use mathlib.Core.Bool.{Bool, not}
-use mathlib.Core.Path.{sym, ap, _∙_}
-use Rattle.sysex.specs.Forms.{bodyLength}
 use borrow.Author.Needs.{needs}
 use Rattle.sysex.proofs.judging.shortest_length.Statement.{statement}
 use Rattle.sysex.proofs.judging.shortest_length.Tie as tie
