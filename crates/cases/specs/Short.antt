@@ -1,4 +1,4 @@
--- Req 06: "Units that send 142." Both lengths of a POD's dumps, the marks, and what goes out by them; and a Bass box, which has one length.
+-- Req 06, "Units that send 142.": both lengths of a POD's dumps, the marks, and what goes out by them; and a Bass box, which has one length.
 use Prim.Native.Nat.{ℕ, zero, suc, _-_}
 use mathlib.Core.List.{List, [], _∷_, _++_}
 use lib.ListN.{length, replicate, set}
