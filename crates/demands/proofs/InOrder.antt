@@ -27,9 +27,9 @@ use Rattle.controls.specs.Answers.{refusalOf, valueOf}
 use Rattle.controls.specs.Fields.{numberIn}
 use Rattle.controls.specs.Scaling.{scaleOf}
 use Rattle.controls.specs.Showing.{shownOf, backTests, backOf}
-use Rattle.controls.specs.Meaning.{controllersOf, isIn}
+use Rattle.controls.specs.Meaning.{exists}
 use Rattle.controls.proofs.Rows.{row-sane}
-use Rattle.controls.proofs.Listed.{listed-exactly, above-127}
+use Rattle.controls.proofs.Listed.{above-127}
 use Rattle.controls.proofs.Controllers.{applied-tested}
 use Rattle.controls.proofs.Back.{formed, row-shown}
 use Rattle.framing.specs.declared.Receiver.{Receiver}
@@ -186,16 +186,16 @@ module _ (kind : Kind) (settings : Settings) (valid : isValid settings ≡ true)
       (λ e. let z : _≡_ {A = ℕ} 0 1 = cc in omega arith) sent-tested
 
   -- "a controller above 127 is 17, a value above 127 is 18, in the usual order": 17 at any value for a controller that the kind has not
-  pub not-listed : isIn (move .controller) (controllersOf kind) ≡ false → moveAnswer ≡ refused 17
-  not-listed other = sent-tested ∙ (rw (listed-exactly kind (move .controller) ∙ other))
+  pub not-listed : exists kind (move .controller) ≡ false → moveAnswer ≡ refused 17
+  not-listed other = sent-tested ∙ (rw other)
 
   pub high-controller : 127 < move .controller → moveAnswer ≡ refused 17
   high-controller high = sent-tested ∙ (rw (eq-eqb _ 0 (above-127 kind (move .controller) high)))
 
-  pub high-value : isIn (move .controller) (controllersOf kind) ≡ true → 127 < move .value → moveAnswer ≡ refused 18
+  pub high-value : exists kind (move .controller) ≡ true → 127 < move .value → moveAnswer ≡ refused 18
   high-value listed high =
       let low = row-sane kind (move .controller) .low in
-      sent-tested ∙ (rw (listed-exactly kind (move .controller) ∙ listed, lt-leb (move .value) (rowOf kind (move .controller) .highest) (omega arith)))
+      sent-tested ∙ (rw (listed, lt-leb (move .value) (rowOf kind (move .controller) .highest) (omega arith)))
 
 -- Scaling: 32 for the kind, 17, 18. Showing back: 32 for the kind, 30, 17, 19, 40.
 reading-order : (ts : List (Test ℕ)) (given : Reading) (value number : ℕ) → given ≡ tested ts reading.Refused (reading.Value value) → (given ≡ reading.Refused number) ↔ FirstToFail ts number

@@ -12,7 +12,7 @@ use Rattle.ground.specs.Tests.{AllHold}
 use Rattle.ground.proofs.Tests.{both, by}
 use Rattle.ground.proofs.InOrder.{tested-cases}
 use Rattle.kinds.specs.declared.Kind.{Kind}
-use Rattle.kinds.specs.declared.Kind.the-variants.{Pod, BassPod}
+use Rattle.kinds.specs.declared.Kind.the-variants.{Pod, BassPod, PodPro}
 use Rattle.kinds.specs.Kinds.{kindOf, sizeOf, takesProgramChange}
 use Rattle.programs.specs.Memory.{programCount, memorySize}
 use Rattle.programs.specs.Held.{Held, One, Edit, bytesIn}
@@ -102,10 +102,10 @@ module _ (settings : Settings) (player : ℕ) (held : Held) (status number secon
       (λ high. rw (le-leb 1 number (omega arith), lt-leb number programCount high))
       outside)
 
-  -- and so does every program change on a POD
-  pub pod-21 : isHeard settings status ≡ true → status / 16 ≡ 0xC → Does Pod ≡ refusing held 21
+  -- and so does every program change on a POD and on a POD Pro
+  pub pod-21 : isHeard settings status ≡ true → status / 16 ≡ 0xC → (Does Pod ≡ refusing held 21) × (Does PodPro ≡ refusing held 21)
   unfolding messageDoes channelDoes isProgramChange takesProgramChange
-  pod-21 heard c = rw (heard, no-controller status c)
+  pod-21 heard c = (rw (heard, no-controller status c), rw (heard, no-controller status c))
 
 -- On a socket, under its running status, which stays: the one data byte is the program change.
 pub change-on-socket : (kindNumber : ℕ) → kindOf kindNumber ≡ BassPod → (settings : Settings) (socket status number : ℕ) (held : Held) (receive reply : List ℕ)

@@ -9,7 +9,7 @@ use Rattle.ground.specs.Lists.{written}
 use Rattle.ground.specs.Calls.{left}
 use Rattle.kinds.specs.declared.Kind.{Kind}
 use Rattle.programs.specs.Held.{Held}
-use Rattle.controls.specs.Meaning.{controllersOf, isIn}
+use Rattle.controls.specs.Meaning.{exists}
 use Rattle.sockets.specs.Calls.{Socket, Call, Byte, Direct, FromSocket}
 use Rattle.sockets.specs.Box.{FinishesOf, heldAfter, saidsOf}
 use Rattle.sysex.specs.declared.Settings.{Settings}
@@ -62,9 +62,9 @@ ListNumber number = (number ≡ 0) ⊎ ((number ≡ 30) ⊎ ((32 ≤ number) × 
 -- what is noted for a move: 3, 17, 18 or 19; "a controller above 127 is 17, a value above 127 is 18, in the usual order"
 pub record Noted (kind : Kind) (move : Move) (number : ℕ) : Type 0 where
   pub numbered : (number ≡ 3) ⊎ ((17 ≤ number) × (number ≤ 19))
-  pub unlisted : isIn (move .controller) (controllersOf kind) ≡ false → number ≡ 17
+  pub unlisted : exists kind (move .controller) ≡ false → number ≡ 17
   pub above-127 : 127 < move .controller → number ≡ 17
-  pub value-above-127 : isIn (move .controller) (controllersOf kind) ≡ true → 127 < move .value → number ≡ 18
+  pub value-above-127 : exists kind (move .controller) ≡ true → 127 < move .value → number ≡ 18
 
 -- what holds of every list, whatever is lent
 pub record AnsweredList (kind : Kind) (moves : List Move) (held : Held) (numbers : List ℕ) (l : Left) : Type 0 where

@@ -5,6 +5,7 @@ use framing::Receiver;
 use kinds::BASS_POD;
 use kinds::NO_KIND;
 use kinds::POD;
+use kinds::POD_PRO;
 use libc::STDERR_FILENO;
 use libc::STDIN_FILENO;
 use libc::STDOUT_FILENO;
@@ -27,7 +28,7 @@ fn main() {
         list(kind);
         return;
     }
-    io::write_all(STDERR_FILENO, b"listing: the kind is pod or bass\n");
+    io::write_all(STDERR_FILENO, b"listing: the kind is pod, bass or pro\n");
 }
 
 // The number of the kind that the program is told: a POD's where there is no word, and no kind's where the words name
@@ -50,6 +51,9 @@ fn named() -> u32 {
     }
     if check::same(&word[..length], b"bass") {
         return BASS_POD;
+    }
+    if check::same(&word[..length], b"pro") {
+        return POD_PRO;
     }
     NO_KIND
 }

@@ -1,4 +1,4 @@
-// The calls of the box and of the controllers, and the line of each answer.
+// The calls of the box, of the controllers and of the amp models, and the line of each answer.
 use crate::buffers;
 use crate::buffers::Buffer;
 use crate::buffers::Marks;
@@ -208,6 +208,12 @@ pub(crate) fn scale(desk: Desk, value: u32) -> Desk {
         desk,
         costerbloom::costerbloom_scale(desk.controller, value, desk.kind),
     );
+    desk::counted(desk)
+}
+
+// Whether an amp model is known.
+pub(crate) fn amp(desk: Desk, model: u32) -> Desk {
+    print::value(b'G', desk, costerbloom::costerbloom_amp(model, desk.kind));
     desk::counted(desk)
 }
 

@@ -111,6 +111,7 @@ fn called(
         b'V' => calls::moves(desk, all, memory, marks, receive0, receive1, reply),
         b'K' => calls::scale(desk, script::wide(command)),
         b'D' => calls::show_back(desk, memory),
+        b'G' => calls::amp(desk, script::wide(command)),
         _ => desk,
     }
 }

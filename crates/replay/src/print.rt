@@ -59,7 +59,7 @@ pub(crate) fn listed(
     }
 }
 
-// The line of a controller's value, or of its refusal.
+// The line of a controller's value, of whether an amp model is known, or of a refusal.
 pub(crate) fn value(letter: u8, desk: Desk, value: u32) {
     io::write_all(STDOUT_FILENO, &[letter]);
     field(desk.calls);

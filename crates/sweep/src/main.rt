@@ -40,6 +40,7 @@ fn main() {
     );
     print_controllers(kinds::POD);
     print_controllers(kinds::BASS_POD);
+    print_controllers(kinds::POD_PRO);
     io::write_all(STDOUT_FILENO, b"halves");
     print_tally(half_bytes::joined_and_split());
     io::write_all(STDOUT_FILENO, b"\n");

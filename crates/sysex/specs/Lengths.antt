@@ -3,7 +3,7 @@ use Prim.Native.Nat.{ℕ, _+_, _-_}
 use mathlib.Core.Bool.{true}
 use mathlib.Core.List.{List, [], _∷_}
 use Rattle.kinds.specs.declared.Kind.{Kind}
-use Rattle.kinds.specs.declared.Kind.the-variants.{Pod, BassPod}
+use Rattle.kinds.specs.declared.Kind.the-variants.{Pod, BassPod, PodPro}
 use Rattle.kinds.specs.Kinds.{sizeOf, namePlace}
 use Rattle.programs.specs.Memory.{memorySize}
 use Rattle.sysex.specs.Forms.{program, all, dataCount, shortest, longest, wholeLengths}
@@ -51,4 +51,5 @@ abbrev pub lengths : List Lengths
 lengths =
     line Pod 72 55 70 144 5184 (9 ∷ 8 ∷ 8 ∷ 154 ∷ 153 ∷ 5193 ∷ []) (9 ∷ 8 ∷ 8 ∷ 152 ∷ 151 ∷ 5121 ∷ []) 5193 5192 2664 ∷
     line BassPod 80 64 79 160 5760 (9 ∷ 8 ∷ 8 ∷ 170 ∷ 169 ∷ 5769 ∷ []) (9 ∷ 8 ∷ 8 ∷ 170 ∷ 169 ∷ 5769 ∷ []) 5769 5768 2960 ∷
+    line PodPro 72 55 70 144 5184 (9 ∷ 8 ∷ 8 ∷ 154 ∷ 153 ∷ 5193 ∷ []) (9 ∷ 8 ∷ 8 ∷ 152 ∷ 151 ∷ 5121 ∷ []) 5193 5192 2664 ∷
     []

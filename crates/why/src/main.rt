@@ -11,6 +11,7 @@ use kinds::BASS_POD;
 use kinds::Kind;
 use kinds::NO_KIND;
 use kinds::POD;
+use kinds::POD_PRO;
 use libc::STDERR_FILENO;
 use libc::STDIN_FILENO;
 
@@ -29,7 +30,7 @@ fn main() {
         tell_input(kinds::kind_of(kind));
         return;
     }
-    io::write_all(STDERR_FILENO, b"why: the kind is pod or bass\n");
+    io::write_all(STDERR_FILENO, b"why: the kind is pod, bass or pro\n");
 }
 
 // The number of the kind that the program is told: a POD's where there is no word, and no kind's where the words name
@@ -52,6 +53,9 @@ fn named() -> u32 {
     }
     if check::same(&word[..length], b"bass") {
         return BASS_POD;
+    }
+    if check::same(&word[..length], b"pro") {
+        return POD_PRO;
     }
     NO_KIND
 }
