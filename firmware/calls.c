@@ -108,8 +108,9 @@ static const struct named *const last_program = &names[2], *const edit_buffer = 
 static const struct named *const all_programs = &names[4], *const names_end = names + 5;
 
 /* A scene for each kind: its moves, the number of each, and what an edit buffer that was zero holds then. A POD's byte
- * 46 is 0 at first, which selects 51, and a move of 19 makes it 2, which selects 55 and 56; 62 keeps what 30 stored. On
- * every kind refused moves stand between those that are applied, and both fields have numbers above 127. */
+ * 46, and a POD Pro's, is 0 at first, which selects 51, and a move of 19 makes it 2, which selects 55 and 56; 62 keeps
+ * what 30 stored. On every kind refused moves stand between those that are applied, and both fields have numbers above
+ * 127. */
 enum { SCENE = 13 };
 
 static const struct scene {
@@ -350,7 +351,7 @@ static void expect_no_kind(uint32_t kind, size_t most_memory, size_t most)
         "take, whole or moves", "a kind that is none changes a buffer");
 }
 
-/* A Bass POD's call with a POD's buffers, and a POD's with a Bass POD's receiver. */
+/* A Bass POD's call with a POD's buffers, and the other two's with a Bass POD's receiver. */
 static void expect_apart(void)
 {
     costerbloom_receiver open = {.stored = 5500, .inside = 1};
@@ -420,7 +421,7 @@ static uint8_t stored_at(const struct kind *k, const struct named *n, size_t sen
     return (uint8_t)(halves[0] << 4 | halves[1]);
 }
 
-/* A dump that is stored: of a POD it sets the marks of what it names, or clears them, of a Bass POD none. */
+/* A dump that is stored: it sets the marks of what it names, or clears them, but on a Bass POD none. */
 static void expect_stored(const struct kind *k, const struct named *n, size_t sent, uint8_t before, _Bool by_bytes)
 {
     fill(memory, sizeof memory, FILLED);
@@ -527,8 +528,8 @@ static void hold(void)
         memory[place] = held_at(place);
 }
 
-/* One mark against all others, set or clear: a POD's reply is long where all marks are set of what is asked for. No
- * byte of memory is 0, and none changes, a spare one neither. */
+/* One mark against all others, set or clear: a reply is long where all marks are set of what is asked for, and on a
+ * Bass POD always. No byte of memory is 0, and none changes, a spare one neither. */
 static void expect_replies(const struct kind *k)
 {
     hold();
