@@ -164,12 +164,14 @@ static int fields_same(uint32_t kind)
     return 1;
 }
 
-/* Every number in all bytes of the edit buffer. */
+/* Every number in each byte of the edit buffer, another one beside it. */
 static int numbers_same(uint32_t kind)
 {
     static uint8_t memory[COSTERBLOOM_MEMORY];
+    uint8_t *edit = memory + KIND[kind].memory - KIND[kind].program;
     for (uint32_t number = 0; number < 256; number++) {
-        __builtin_memset(memory, (int)number, sizeof memory);
+        for (size_t place = 0; place < KIND[kind].program; place++)
+            edit[place] = (uint8_t)(number + place);
         if (!shows_same(memory, kind, 0, 140))
             return 0;
     }
