@@ -10,11 +10,11 @@ use Rattle.ground.specs.Lists.{written}
 use Rattle.ground.specs.Tests.{tested, AllHold}
 use Rattle.ground.proofs.InOrder.{tested-cases}
 use Rattle.kinds.specs.declared.Kind.the-variants.{Pod}
-use Rattle.kinds.specs.Kinds.{isKind, kindOf, numberOf, sizeOf, hasSpare, deviceOf}
+use Rattle.kinds.specs.Kinds.{isKind, kindOf, numberOf, sizeOf, hasSpare, deviceOf, highestModel}
 use Rattle.programs.specs.Memory.{editPlace}
 use Rattle.programs.specs.Held.{Held, Edit}
 use Rattle.controls.specs.Formulas.{numberBy, numberFor, nextFor}
-use Rattle.controls.specs.Table.{rows, rowOf, selections, effectOf, selected}
+use Rattle.controls.specs.Table.{table, rowOf, selections, effectOf, selected}
 use Rattle.controls.specs.Applying.{storeRow, applyOf}
 use Rattle.framing.specs.Receiver.{holdingOf, openedOf, soundOf, isWritten, countRight, runningRight, waitingRight, longIsFull, takesOne, takesTwo}
 use Rattle.framing.specs.Bytes.{stepOf}
@@ -67,7 +67,7 @@ taken-whole = (refl, (refl, (refl, (refl, (refl, (refl, tt))))))
 
 -- controller 12 at 27 is applied
 pub refuses-controllers : ShutOut (Refuses EndsChannel)
-unfolding isKind kindOf numberOf sizeOf deviceOf freshSettings freshHeld soundOf isWritten countRight runningRight waitingRight longIsFull takesOne takesTwo stepOf isValid areMarks stepDoes byteOf isHeard isController channelDoes messageDoes applyOf storeRow rowOf rows numberBy numberFor nextFor effectOf selections selected
+unfolding isKind kindOf numberOf sizeOf deviceOf freshSettings freshHeld soundOf isWritten countRight runningRight waitingRight longIsFull takesOne takesTwo stepOf isValid areMarks stepDoes byteOf isHeard isController channelDoes messageDoes applyOf storeRow rowOf table highestModel numberBy numberFor nextFor effectOf selections selected
 refuses-controllers =
     shut (Refuses EndsChannel) (λ bad.
     let z : 10 ≤ 3 = bad freshSettings 0 27 moving (taken moving refl) (0xB0, 12, 27, refl) in
@@ -85,7 +85,7 @@ pub refuses-everything : ShutOut (Refuses Ends)
 refuses-everything box keeps bad = refuses-controllers box keeps (λ settings socket byte entry all ends. bad settings socket byte entry all (inr ends))
 
 pub returns-zero : ShutOut ReturnsZero
-unfolding isKind kindOf numberOf sizeOf deviceOf freshSettings freshHeld soundOf isWritten countRight runningRight waitingRight longIsFull takesOne takesTwo stepOf isValid areMarks stepDoes byteOf isHeard isController channelDoes messageDoes applyOf storeRow rowOf rows numberBy numberFor nextFor effectOf selections selected
+unfolding isKind kindOf numberOf sizeOf deviceOf freshSettings freshHeld soundOf isWritten countRight runningRight waitingRight longIsFull takesOne takesTwo stepOf isValid areMarks stepDoes byteOf isHeard isController channelDoes messageDoes applyOf storeRow rowOf table highestModel numberBy numberFor nextFor effectOf selections selected
 returns-zero =
     shut ReturnsZero (λ bad.
     let z : _≡_ {A = ℕ} 3 0 = bad freshSettings 0 27 moving (taken moving refl) (inr (0xB0, 12, 27, refl)) in
@@ -93,7 +93,7 @@ returns-zero =
 
 -- controller 12 at 27 stands in byte 8
 pub never-writes : ShutOut NeverWrites
-unfolding isKind kindOf numberOf sizeOf deviceOf freshSettings freshHeld soundOf isWritten countRight runningRight waitingRight longIsFull takesOne takesTwo stepOf isValid areMarks stepDoes byteOf isHeard isController channelDoes messageDoes applyOf storeRow rowOf rows numberBy numberFor nextFor effectOf selections selected
+unfolding isKind kindOf numberOf sizeOf deviceOf freshSettings freshHeld soundOf isWritten countRight runningRight waitingRight longIsFull takesOne takesTwo stepOf isValid areMarks stepDoes byteOf isHeard isController channelDoes messageDoes applyOf storeRow rowOf table highestModel numberBy numberFor nextFor effectOf selections selected
 never-writes =
     shut NeverWrites (λ bad.
     let z : _≡_ {A = ℕ} 27 0 = ap model (bad freshSettings 0 27 moving (taken moving refl)) in

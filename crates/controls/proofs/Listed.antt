@@ -4,46 +4,36 @@ use mathlib.Core.Bool.{Bool, true, false, cond}
 use mathlib.Core.List.{List, [], _∷_}
 use mathlib.Core.Path.{_≡_, refl}
 use lib.Dec.{eqb, leb}
-use lib.ListN.{length}
+use lib.ListN.{length, drop}
 use borrow.Author.Tests.{eqb-true, lt-leb}
 use Rattle.ground.proofs.Tests.{both, by}
 use Rattle.kinds.specs.declared.Kind.{Kind}
-use Rattle.kinds.specs.declared.Kind.the-variants.{Pod, BassPod}
+use Rattle.kinds.specs.declared.Kind.the-variants.{Pod, BassPod, PodPro}
 use Rattle.kinds.proofs.AnyKind.{at-kind}
+use Rattle.kinds.specs.Kinds.{highestModel}
 use Rattle.controls.specs.declared.Row.{Row}
-use Rattle.controls.specs.Table.{Entry, find, unlisted, rows, rowOf}
+use Rattle.controls.specs.Table.{Entry, find, unlisted, rows, table, rowOf}
 use Rattle.controls.specs.Refusals.{listedTest}
-use Rattle.controls.specs.Meaning.{controllersOf, isIn}
+use Rattle.controls.specs.Meaning.{controllersOf}
 use Rattle.controls.proofs.Rows.{allPass, row-found}
 
-abbrev keys : List (Entry Row) → List ℕ
-keys [] = []
-keys (e ∷ es) = e .key ∷ keys es
+-- Which controllers exist, over three kinds and 128 numbers: on a POD these, on a POD Pro those and 9, on a Bass POD these.
+pub which-exist : (controllersOf Pod
+    ≡ 1 ∷ 4 ∷ 7 ∷ 12 ∷ 13 ∷ 14 ∷ 15 ∷ 16 ∷ 17 ∷ 18 ∷ 19 ∷ 20 ∷ 21 ∷ 22 ∷ 23 ∷ 24 ∷ 25 ∷ 26 ∷ 27 ∷ 28 ∷ 30 ∷ 32 ∷ 34 ∷ 36 ∷ 37 ∷ 38 ∷ 39 ∷ 40 ∷ 41 ∷ 42
+    ∷ 44 ∷ 45 ∷ 46 ∷ 47 ∷ 49 ∷ 50 ∷ 51 ∷ 52 ∷ 53 ∷ 54 ∷ 55 ∷ 56 ∷ 57 ∷ 58 ∷ 59 ∷ 62 ∷ 71 ∷ 72 ∷ 73 ∷ [])
+    × (controllersOf PodPro ≡ 1 ∷ 4 ∷ 7 ∷ 9 ∷ drop 3 (controllersOf Pod))
+    × (controllersOf BassPod ≡ 1 ∷ 12 ∷ 13 ∷ 14 ∷ 15 ∷ 16 ∷ 17 ∷ 18 ∷ 19 ∷ 64 ∷ [])
+unfolding rowOf table
+which-exist = (refl, refl, refl)
 
-either-row : (t : Bool) (r s : Row) (x : Bool) → listedTest r .holds ≡ true → listedTest s .holds ≡ x → listedTest (cond t r s) .holds ≡ cond t true x
-either-row true r s x here later = here
-either-row false r s x here later = later
-
--- where every row of a list has bytes, a row with bytes is found at its keys alone
-at-keys : (es : List (Entry Row)) → allPass (λ _ r. listedTest r .holds) es ≡ true → (key : ℕ) → listedTest (find unlisted key es) .holds ≡ isIn key (keys es)
-at-keys [] t key = refl
-at-keys (e ∷ es) t key =
-    let p = both (listedTest (e .value) .holds) _ t in
-    either-row (eqb key (e .key)) (e .value) (find unlisted key es) _ (p .0) (at-keys es (p .1) key)
-
--- 17 is answered exactly for the controllers that are not in the list.
-pub listed-exactly : (kind : Kind) (controller : ℕ) → listedTest (rowOf kind controller) .holds ≡ isIn controller (controllersOf kind)
-unfolding rows rowOf
-listed-exactly Pod = at-keys (rows Pod) refl
-listed-exactly BassPod = at-keys (rows BassPod) refl
-
--- They are 49 and ten.
-pub how-many : (length (controllersOf Pod) ≡ 49) × (length (controllersOf BassPod) ≡ 10)
-how-many = (refl, refl)
+-- They are 49, 50 and ten.
+pub how-many : (length (controllersOf Pod) ≡ 49) × (length (controllersOf PodPro) ≡ 50) × (length (controllersOf BassPod) ≡ 10)
+unfolding rowOf table
+how-many = (refl, refl, refl)
 
 -- "a controller not in the table or above 127": none above 127 is in it.
 pub above-127 : (kind : Kind) (controller : ℕ) → 127 < controller → rowOf kind controller .width ≡ 0
-unfolding rows
+unfolding table
 above-127 kind controller h =
     let low : ℕ → Row → Bool = λ k r. cond (leb k 127) true (eqb (r .width) 0) in
     let none-low : (k : ℕ) → low k unlisted ≡ true = λ k. by (λ x. x ≡ true) (leb k 127) true true (λ _. refl) (λ _. refl) in

@@ -1,21 +1,21 @@
 -- Laws of the table: what its list says of each row, and what is found where no entry fits.
 use Prim.Native.Nat.{ℕ, _+_, _≤_, _<_}
-use mathlib.Core.Bool.{Bool, true, false, cond, _&&_}
+use mathlib.Core.Bool.{Bool, true, false, false≢true, cond, not, _&&_, _||_}
 use mathlib.Core.List.{List, [], _∷_}
 use mathlib.Core.Logic.{inl, inr, ⊎-elim}
-use mathlib.Core.Path.{_≡_, refl}
+use mathlib.Core.Path.{_≡_, refl, sym, ap, _∙_}
 use native.Mathlib.Omega.{arith}
 use lib.Dec.{eqb, leb, ltb}
 use borrow.Author.Tests.{eqb-true, leb-true, ltb-true, ne-eqb}
 use Rattle.ground.proofs.Tests.{both, either, by}
 use Rattle.ground.proofs.Computed.{every, every-at}
 use Rattle.kinds.specs.declared.Kind.{Kind}
-use Rattle.kinds.specs.declared.Kind.the-variants.{Pod}
-use Rattle.kinds.specs.Kinds.{sizeOf}
+use Rattle.kinds.specs.declared.Kind.the-variants.{Pod, PodPro}
+use Rattle.kinds.specs.Kinds.{sizeOf, highestModel}
 use Rattle.kinds.proofs.AnyKind.{eachKind, at-kind}
 use Rattle.controls.specs.declared.Row.{Row}
 use Rattle.controls.specs.Formulas.{m-upper, m-lower, numberBy, numberFor}
-use Rattle.controls.specs.Table.{Entry, find, none, unlisted, rows, rowOf}
+use Rattle.controls.specs.Table.{Entry, Line, find, none, unlisted, table, if-so, standing, rows, rowOf}
 use Rattle.controls.specs.Meaning.{Outside}
 use Rattle.controls.specs.Private.{Sane}
 use Rattle.controls.proofs.Bytes.{above}
@@ -85,15 +85,15 @@ module _ (kind : Kind) (controller : ℕ) where
       (leb-true _ _ (p .0), eqb-true _ _ (q .0), eqb-true _ _ (q .1))
 
   pub whole-upper : eqb (rowOf kind controller .formula) m-upper ≡ true → Whole (rowOf kind controller)
-  unfolding rows
+  unfolding table highestModel
   whole-upper = wholes m-upper refl
 
   pub whole-lower : eqb (rowOf kind controller .formula) m-lower ≡ true → Whole (rowOf kind controller)
-  unfolding rows
+  unfolding table highestModel
   whole-lower = wholes m-lower refl
 
   pub row-sane : Sane kind (rowOf kind controller)
-  unfolding rows sizeOf
+  unfolding table highestModel sizeOf
   row-sane =
       let r = rowOf kind controller in
       let p = both (leb (r .place + r .width) (sizeOf kind)) _ (fact isSane refl kind controller) in
@@ -107,29 +107,63 @@ module _ (kind : Kind) (controller : ℕ) where
 
   -- a row's numbers have room in its bytes
   pub number-room : (v : ℕ) → v ≤ rowOf kind controller .highest → above (rowOf kind controller .width) (numberFor (rowOf kind controller) v) ≡ 0
-  unfolding rows numberBy numberFor
+  unfolding table highestModel numberBy numberFor
   number-room v h = eqb-true _ _ (numbers (λ r n. eqb (above (r .width) n) 0) refl v h)
 
   -- and in two bytes, as scaling gives them
   pub number-low : (v : ℕ) → v ≤ rowOf kind controller .highest → numberFor (rowOf kind controller) v < 65536
-  unfolding rows numberBy numberFor
+  unfolding table highestModel numberBy numberFor
   number-low v h = ltb-true _ _ (numbers (λ _ n. ltb n 65536) refl v h)
 
   -- a shared byte is not byte 46
   pub shared-beyond : eqb (rowOf kind controller .effect) none ≡ false → 46 < rowOf kind controller .place
-  unfolding rows
+  unfolding table highestModel
   shared-beyond e = ltb-true _ _ (rw e at (fact (λ _ r. cond (eqb (r .effect) none) true (ltb 46 (r .place))) refl kind controller))
 
 -- of a POD's controllers only 19 has byte 46
 pub beside-46 : (controller : ℕ) → (controller ≡ 19 → ⊥) → Outside (rowOf Pod controller .width) (rowOf Pod controller .place) 46
-unfolding rows
+unfolding table highestModel
 beside-46 controller other =
     let beside : ℕ → Row → Bool = λ k r. cond (eqb k 19) true (cond (ltb 46 (r .place)) true (leb (r .place + r .width) 46)) in
     let none-beside : (k : ℕ) → beside k unlisted ≡ true = λ k. by (λ x. x ≡ true) (eqb k 19) true true (λ _. refl) (λ _. refl) in
     ⊎-elim (λ before. inl (ltb-true _ _ before)) (λ behind. inr (leb-true _ _ behind))
     (either _ _ (rw (ne-eqb controller 19 other) at (row-found Pod beside none-beside refl controller)))
 
--- an edit buffer of either kind has byte 46
+-- Kinds on which the same lines stand, but for some controllers, have the same rows, but for those.
+abbrev alike : (ℕ → Bool) → Kind → Kind → List Line → Bool
+alike apart kind other [] = true
+alike apart kind other (l ∷ ls) = cond (apart (l .entry .key)) true (cond (l .stands kind) (l .stands other) (not (l .stands other))) && alike apart kind other ls
+
+module _ (controller : ℕ) where
+  -- a line more, which stands on both kinds or on neither, or is another controller's
+  line-more : (here there : Bool) (e : Entry Row) (xs ys : List (Entry Row)) → (eqb controller (e .key) ≡ true → cond here there (not there) ≡ true)
+      → find unlisted controller xs ≡ find unlisted controller ys
+      → find unlisted controller (if-so here e xs) ≡ find unlisted controller (if-so there e ys)
+  line-more true true e xs ys same rest = rw rest
+  line-more true false e xs ys same rest =
+      by (λ (r : Row). r ≡ find unlisted controller ys) (eqb controller (e .key)) (e .value) (find unlisted controller xs) (λ t. absurd (false≢true (same t))) (λ _. rest)
+  line-more false true e xs ys same rest =
+      by (λ (r : Row). find unlisted controller xs ≡ r) (eqb controller (e .key)) (e .value) (find unlisted controller ys) (λ t. absurd (false≢true (same t))) (λ _. rest)
+  line-more false false e xs ys same rest = rest
+
+  same-rows : (apart : ℕ → Bool) (kind other : Kind) (ls : List Line) → alike apart kind other ls ≡ true → apart controller ≡ false
+      → find unlisted controller (standing kind ls) ≡ find unlisted controller (standing other ls)
+  same-rows apart kind other [] t free = refl
+  same-rows apart kind other (l ∷ ls) t free =
+      let here = l .stands kind in
+      let there = l .stands other in
+      let p = both (cond (apart (l .entry .key)) true (cond here there (not there))) _ t in
+      line-more here there (l .entry) (standing kind ls) (standing other ls)
+      (λ is. let own : apart (l .entry .key) ≡ false = ap apart (sym (eqb-true controller (l .entry .key) is)) ∙ free in rw own at (p .0))
+      (same-rows apart kind other ls (p .1) free)
+
+-- A POD Pro's controllers are a POD's, but for 9 and 12.
+pub as-on-pod : (controller : ℕ) → (controller ≡ 9 → ⊥) → (controller ≡ 12 → ⊥) → rowOf PodPro controller ≡ rowOf Pod controller
+unfolding rowOf table highestModel
+as-on-pod controller not-9 not-12 =
+    same-rows controller (λ n. eqb n 9 || eqb n 12) PodPro Pod table refl (rw (ne-eqb controller 9 not-9, ne-eqb controller 12 not-12))
+
+-- an edit buffer of any kind has byte 46
 pub has-46 : (kind : Kind) → 46 < sizeOf kind
 unfolding sizeOf
 has-46 kind = ltb-true _ _ (at-kind (λ kind. ltb 46 (sizeOf kind)) refl kind)

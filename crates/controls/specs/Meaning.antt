@@ -1,17 +1,16 @@
 -- What the theorems of applying and showing back speak of, beside the definitions that the promises name.
-use Prim.Native.Nat.{ℕ, _+_, _≤_, _<_}
-use mathlib.Core.Bool.{Bool, true, false, cond}
+use Prim.Native.Nat.{ℕ, zero, suc, _+_, _≤_, _<_}
+use mathlib.Core.Bool.{Bool, true}
 use mathlib.Core.List.{List, [], _∷_}
 use mathlib.Core.Logic.{_⊎_}
 use mathlib.Core.Path.{_≡_}
-use lib.Dec.{eqb}
 use lib.ListN.{length, getD}
 use Rattle.kinds.specs.declared.Kind.{Kind}
-use Rattle.kinds.specs.declared.Kind.the-variants.{Pod, BassPod}
 use Rattle.kinds.specs.Kinds.{sizeOf}
 use Rattle.controls.specs.declared.Row.{Row}
 use Rattle.controls.specs.Formulas.{nextFor}
-use Rattle.controls.specs.Table.{rowOf, selected}
+use Rattle.controls.specs.Table.{if-so, rowOf, selected}
+use Rattle.controls.specs.Refusals.{listedTest}
 
 -- the buffer is long enough, the controller is in the table, and its effect is selected
 pub record Allowed (kind : Kind) (controller : ℕ) (edit : List ℕ) : Type 0 where
@@ -19,15 +18,18 @@ pub record Allowed (kind : Kind) (controller : ℕ) (edit : List ℕ) : Type 0 w
   pub listed : 1 ≤ rowOf kind controller .width
   pub chosen : selected (rowOf kind controller .effect) (getD edit 46 0) ≡ true
 
--- "These 49 controllers are all."; of a Bass POD "Only these controllers". In the documents' order
-abbrev pub controllersOf : Kind → List ℕ
-controllersOf Pod =
-    25 ∷ 26 ∷ 27 ∷ 28 ∷ 50 ∷ 36 ∷ 22 ∷ 73 ∷ 47 ∷ 37 ∷ 13 ∷ 20 ∷ 14 ∷ 15 ∷ 16 ∷ 21 ∷ 17 ∷ 24 ∷ 32 ∷ 34 ∷ 38 ∷ 39 ∷ 40 ∷ 41 ∷ 18 ∷ 72 ∷ 1 ∷ 4 ∷ 44 ∷ 45 ∷ 7 ∷ 46 ∷ 12 ∷ 71 ∷ 19 ∷ 23 ∷ 30 ∷ 62 ∷ 49 ∷ 42 ∷ 51 ∷ 52 ∷ 53 ∷ 54 ∷ 55 ∷ 56 ∷ 57 ∷ 58 ∷ 59 ∷ []
-controllersOf BassPod = 12 ∷ 19 ∷ 64 ∷ 13 ∷ 14 ∷ 15 ∷ 16 ∷ 17 ∷ 18 ∷ 1 ∷ []
+-- "Which controllers exist is one table rule over all three kinds": those that have a row
+abbrev pub exists : Kind → ℕ → Bool
+exists kind controller = listedTest (rowOf kind controller) .holds
 
-abbrev pub isIn : ℕ → List ℕ → Bool
-isIn n [] = false
-isIn n (x ∷ xs) = cond (eqb n x) true (isIn n xs)
+-- of `count` numbers from n on, those that pass a test
+abbrev pub passing : (ℕ → Bool) → ℕ → ℕ → List ℕ
+passing test zero n = []
+passing test (suc count) n = if-so (test n) n (passing test count (n + 1))
+
+-- the controllers of a kind up to 127, lowest first
+abbrev pub controllersOf : Kind → List ℕ
+controllersOf kind = passing (exists kind) 128 0
 
 -- a byte before the `width` bytes from `place` on, or behind them
 abbrev pub Outside : ℕ → ℕ → ℕ → Type 0

@@ -1,10 +1,11 @@
--- The controllers of each kind of unit: "These 49 controllers are all."; of a Bass POD "Only these controllers".
+-- The controllers of each kind of unit: "These 49 controllers are all."; of a Bass POD "Only these controllers"; of a POD Pro the 49 and 9.
 use Prim.Native.Nat.{ℕ}
-use mathlib.Core.Bool.{Bool, true, cond}
+use mathlib.Core.Bool.{Bool, true, false, cond}
 use mathlib.Core.List.{List, [], _∷_}
 use lib.Dec.{eqb}
 use Rattle.kinds.specs.declared.Kind.{Kind}
-use Rattle.kinds.specs.declared.Kind.the-variants.{Pod, BassPod}
+use Rattle.kinds.specs.declared.Kind.the-variants.{Pod, BassPod, PodPro}
+use Rattle.kinds.specs.Kinds.{highestModel}
 use Rattle.controls.specs.declared.Row.{Row}
 use Rattle.controls.specs.Formulas.{v/64, v/2, as-received, threshold, m-upper, m-lower, v/22, v×50, v×256/104, v×256/42, v×22+100, v×25}
 
@@ -42,75 +43,116 @@ abbrev pub rowAs : ℕ → ℕ → ℕ → ℕ → ℕ → ℕ → Row
 rowAs place width formula least highest effect =
     record { place = place; width = width; formula = formula; least = least; highest = highest; effect = effect }
 
-abbrev pub row : ℕ → ℕ → ℕ → ℕ → ℕ → ℕ → ℕ → Entry Row
-row controller place width formula least highest effect = record { key = controller; value = rowAs place width formula least highest effect }
+-- On which kinds a row stands: on a POD and a POD Pro, "all else is as for a POD"; on one of these alone; on a Bass POD.
+abbrev pub on-pods : Kind → Bool
+on-pods Pod = true
+on-pods BassPod = false
+on-pods PodPro = true
 
--- "a pair c>b is controller and byte"; Req 01: "51 is raised to at least 200, 58 to at least 150 and 54 to at least 1", and 0 raises nothing. A Bass POD:
--- "12>3 and 19>49 as received up to 15; 64>2 by v/64; 13>4, 14>6, 15>7, 16>8, 17>10, 18>11, 1>50 by v/2"
-unfoldable pub rows : Kind → List (Entry Row)
-rows Pod =
-    row 25 0 1 v/64 0 127 none ∷
-    row 26 1 1 v/64 0 127 none ∷
-    row 27 2 1 v/64 0 127 none ∷
-    row 28 3 1 v/64 0 127 none ∷
-    row 50 4 1 v/64 0 127 none ∷
-    row 36 5 1 v/64 0 127 none ∷
-    row 22 6 1 v/64 0 127 none ∷
-    row 73 7 1 v/64 0 127 none ∷
-    row 47 24 1 v/64 0 127 none ∷
-    row 37 38 1 v/64 0 127 none ∷
-    row 13 9 1 v/2 0 127 none ∷
-    row 20 10 1 v/2 0 127 none ∷
-    row 14 11 1 v/2 0 127 none ∷
-    row 15 12 1 v/2 0 127 none ∷
-    row 16 13 1 v/2 0 127 none ∷
-    row 21 14 1 v/2 0 127 none ∷
-    row 17 15 1 v/2 0 127 none ∷
-    row 24 17 1 v/2 0 127 none ∷
-    row 32 34 1 v/2 0 127 none ∷
-    row 34 36 1 v/2 0 127 none ∷
-    row 38 39 1 v/2 0 127 none ∷
-    row 39 40 1 v/2 0 127 none ∷
-    row 40 41 1 v/2 0 127 none ∷
-    row 41 42 1 v/2 0 127 none ∷
-    row 18 43 1 v/2 0 127 none ∷
-    row 72 45 1 v/2 0 127 none ∷
-    row 1 47 1 v/2 0 127 none ∷
-    row 4 18 1 as-received 0 127 none ∷
-    row 44 19 1 as-received 0 127 none ∷
-    row 45 20 1 as-received 0 127 none ∷
-    row 7 22 1 as-received 0 127 none ∷
-    row 46 23 1 as-received 0 127 none ∷
-    row 12 8 1 as-received 0 27 none ∷
-    row 71 44 1 as-received 0 15 none ∷
-    row 19 46 1 as-received 0 15 none ∷
-    row 23 16 1 threshold 0 127 none ∷
-    row 30 26 3 m-upper 0 127 none ∷
-    row 62 26 3 m-lower 0 127 none ∷
-    row 49 48 1 v/2 0 127 swell ∷
-    row 42 48 1 v/22 0 127 compressor ∷
-    row 51 48 2 v×50 200 127 chorus ∷
-    row 52 50 2 v×256/104 0 127 chorus ∷
-    row 53 52 1 as-received 0 127 chorus ∷
-    row 54 53 2 v×256/42 1 127 chorus ∷
-    row 55 48 1 v/64 0 127 rotary ∷
-    row 56 49 2 v×22+100 0 127 rotary ∷
-    row 57 51 2 v×22+100 0 127 rotary ∷
-    row 58 48 2 v×25 150 127 tremolo ∷
-    row 59 50 1 as-received 0 127 tremolo ∷
+abbrev pub on-pod : Kind → Bool
+on-pod Pod = true
+on-pod BassPod = false
+on-pod PodPro = false
+
+abbrev pub on-pro : Kind → Bool
+on-pro Pod = false
+on-pro BassPod = false
+on-pro PodPro = true
+
+abbrev pub on-bass : Kind → Bool
+on-bass Pod = false
+on-bass BassPod = true
+on-bass PodPro = false
+
+-- a line of the table: a controller's row, and the kinds on which it stands
+pub record Line : Type 0 where
+  pub stands : Kind → Bool
+  pub entry : Entry Row
+
+abbrev pub row : (Kind → Bool) → ℕ → ℕ → ℕ → ℕ → ℕ → ℕ → ℕ → Line
+row stands controller place width formula least highest effect =
+    record { stands = stands; entry = record { key = controller; value = rowAs place width formula least highest effect } }
+
+-- "Which controllers exist is one table rule over all three kinds." "A pair c>b is controller and byte"; Req 01: "51 is raised to at least 200, 58 to at least 150
+-- and 54 to at least 1", and 0 raises nothing. A POD Pro: "amp model up to 31, and controller 9 to byte 35 by v/2". A Bass POD: "12>3 and 19>49 as received up to 15;
+-- 64>2 by v/64; 13>4, 14>6, 15>7, 16>8, 17>10, 18>11, 1>50 by v/2"
+unfoldable pub table : List Line
+table =
+    row on-pods 25 0 1 v/64 0 127 none ∷
+    row on-pods 26 1 1 v/64 0 127 none ∷
+    row on-pods 27 2 1 v/64 0 127 none ∷
+    row on-pods 28 3 1 v/64 0 127 none ∷
+    row on-pods 50 4 1 v/64 0 127 none ∷
+    row on-pods 36 5 1 v/64 0 127 none ∷
+    row on-pods 22 6 1 v/64 0 127 none ∷
+    row on-pods 73 7 1 v/64 0 127 none ∷
+    row on-pods 47 24 1 v/64 0 127 none ∷
+    row on-pods 37 38 1 v/64 0 127 none ∷
+    row on-pods 13 9 1 v/2 0 127 none ∷
+    row on-pods 20 10 1 v/2 0 127 none ∷
+    row on-pods 14 11 1 v/2 0 127 none ∷
+    row on-pods 15 12 1 v/2 0 127 none ∷
+    row on-pods 16 13 1 v/2 0 127 none ∷
+    row on-pods 21 14 1 v/2 0 127 none ∷
+    row on-pods 17 15 1 v/2 0 127 none ∷
+    row on-pods 24 17 1 v/2 0 127 none ∷
+    row on-pods 32 34 1 v/2 0 127 none ∷
+    row on-pods 34 36 1 v/2 0 127 none ∷
+    row on-pods 38 39 1 v/2 0 127 none ∷
+    row on-pods 39 40 1 v/2 0 127 none ∷
+    row on-pods 40 41 1 v/2 0 127 none ∷
+    row on-pods 41 42 1 v/2 0 127 none ∷
+    row on-pods 18 43 1 v/2 0 127 none ∷
+    row on-pods 72 45 1 v/2 0 127 none ∷
+    row on-pods 1 47 1 v/2 0 127 none ∷
+    row on-pods 4 18 1 as-received 0 127 none ∷
+    row on-pods 44 19 1 as-received 0 127 none ∷
+    row on-pods 45 20 1 as-received 0 127 none ∷
+    row on-pods 7 22 1 as-received 0 127 none ∷
+    row on-pods 46 23 1 as-received 0 127 none ∷
+    row on-pod 12 8 1 as-received 0 (highestModel Pod) none ∷
+    row on-pods 71 44 1 as-received 0 15 none ∷
+    row on-pods 19 46 1 as-received 0 15 none ∷
+    row on-pods 23 16 1 threshold 0 127 none ∷
+    row on-pods 30 26 3 m-upper 0 127 none ∷
+    row on-pods 62 26 3 m-lower 0 127 none ∷
+    row on-pods 49 48 1 v/2 0 127 swell ∷
+    row on-pods 42 48 1 v/22 0 127 compressor ∷
+    row on-pods 51 48 2 v×50 200 127 chorus ∷
+    row on-pods 52 50 2 v×256/104 0 127 chorus ∷
+    row on-pods 53 52 1 as-received 0 127 chorus ∷
+    row on-pods 54 53 2 v×256/42 1 127 chorus ∷
+    row on-pods 55 48 1 v/64 0 127 rotary ∷
+    row on-pods 56 49 2 v×22+100 0 127 rotary ∷
+    row on-pods 57 51 2 v×22+100 0 127 rotary ∷
+    row on-pods 58 48 2 v×25 150 127 tremolo ∷
+    row on-pods 59 50 1 as-received 0 127 tremolo ∷
+    row on-pro 12 8 1 as-received 0 (highestModel PodPro) none ∷
+    row on-pro 9 35 1 v/2 0 127 none ∷
+    row on-bass 12 3 1 as-received 0 (highestModel BassPod) none ∷
+    row on-bass 19 49 1 as-received 0 15 none ∷
+    row on-bass 64 2 1 v/64 0 127 none ∷
+    row on-bass 13 4 1 v/2 0 127 none ∷
+    row on-bass 14 6 1 v/2 0 127 none ∷
+    row on-bass 15 7 1 v/2 0 127 none ∷
+    row on-bass 16 8 1 v/2 0 127 none ∷
+    row on-bass 17 10 1 v/2 0 127 none ∷
+    row on-bass 18 11 1 v/2 0 127 none ∷
+    row on-bass 1 50 1 v/2 0 127 none ∷
     []
-rows BassPod =
-    row 12 3 1 as-received 0 15 none ∷
-    row 19 49 1 as-received 0 15 none ∷
-    row 64 2 1 v/64 0 127 none ∷
-    row 13 4 1 v/2 0 127 none ∷
-    row 14 6 1 v/2 0 127 none ∷
-    row 15 7 1 v/2 0 127 none ∷
-    row 16 8 1 v/2 0 127 none ∷
-    row 17 10 1 v/2 0 127 none ∷
-    row 18 11 1 v/2 0 127 none ∷
-    row 1 50 1 v/2 0 127 none ∷
-    []
+
+-- a list with something before it, if a test holds
+abbrev pub if-so : {A : Type 0} → Bool → A → List A → List A
+if-so true x xs = x ∷ xs
+if-so false x xs = xs
+
+-- the rows that stand on a kind
+abbrev pub standing : Kind → List Line → List (Entry Row)
+standing kind [] = []
+standing kind (l ∷ ls) = if-so (l .stands kind) (l .entry) (standing kind ls)
+
+abbrev pub rows : Kind → List (Entry Row)
+rows kind = standing kind table
 
 -- "a controller not in the table or above 127" has a row of no bytes
 abbrev pub unlisted : Row

@@ -1,7 +1,7 @@
 // The table of each kind of unit, row by row in the documents' order. The compiler makes columns of the arms; of constant
 // columns it would write out a copy at every call.
 ghost use mathlib.Core.Path.{_≡_};
-ghost use Rattle.kinds.specs.declared.Kind.the-variants.{Pod, BassPod};
+ghost use Rattle.kinds.specs.declared.Kind.the-variants.{Pod, BassPod, PodPro};
 ghost use Rattle.controls.specs.Table.{rowAs, rowOf, effectOf, selected};
 use crate::Row;
 use crate::formulas::AS_RECEIVED;
@@ -51,6 +51,7 @@ pub fn row_of(controller: u32, kind: Kind) -> Row
     match kind {
         Kind::Pod => pod_row(controller),
         Kind::BassPod => bass_row(controller),
+        Kind::PodPro => pro_row(controller),
     }
 }
 
@@ -129,6 +130,17 @@ fn bass_row(controller: u32) -> Row
         18 => row(11, 1, V_2, 0, 127, NONE),
         1 => row(50, 1, V_2, 0, 127, NONE),
         _ => row(0, 0, 0, 0, 0, NONE),
+    }
+}
+
+// A POD's, but that the Pro has more amp models, and a digital output gain.
+fn pro_row(controller: u32) -> Row
+    ensures { λ r. ⌜ r ≡ rowOf PodPro controller ⌝ }
+{
+    match controller {
+        12 => row(8, 1, AS_RECEIVED, 0, 31, NONE),
+        9 => row(35, 1, V_2, 0, 127, NONE),
+        _ => pod_row(controller),
     }
 }
 

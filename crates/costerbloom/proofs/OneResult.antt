@@ -10,7 +10,7 @@ use Rattle.sockets.specs.Box.{took}
 use Rattle.sockets.proofs.OneResult.{took-one}
 use Rattle.sysex.specs.declared.Settings.{Settings}
 use Rattle.podbox.specs.declared.Move.{Move}
-use Rattle.costerbloom.specs.Numbers.{takeNumbers, wholeNumbers, movesNumbers, scaleNumber, backNumber}
+use Rattle.costerbloom.specs.Numbers.{takeNumbers, wholeNumbers, movesNumbers, scaleNumber, backNumber, ampNumber}
 
 pub costerbloom-take-one : (kindNumber : ℕ) (settings : Settings) (socket : ℕ) (receiver : Receiver) (byte : ℕ) (held : Held) (receive reply : List ℕ) (r s : Receiver) (a b : ℕ) (m n : Held) (x y o p : List ℕ)
     → took r a m x o ≡ takeNumbers kindNumber settings socket receiver byte held receive reply → took s b n y p ≡ takeNumbers kindNumber settings socket receiver byte held receive reply
@@ -33,3 +33,6 @@ costerbloom-scale-one kindNumber controller value r s = one
 
 pub costerbloom-back-one : (kindNumber controller : ℕ) (memory : List ℕ) (r s : ℕ) → r ≡ backNumber kindNumber controller memory → s ≡ backNumber kindNumber controller memory → r ≡ s
 costerbloom-back-one kindNumber controller memory r s = one
+
+pub costerbloom-amp-one : (kindNumber model : ℕ) (r s : ℕ) → r ≡ ampNumber kindNumber model → s ≡ ampNumber kindNumber model → r ≡ s
+costerbloom-amp-one kindNumber model r s = one

@@ -1,11 +1,12 @@
 -- The C interface: "numbers and byte buffers only".
 use Prim.Native.Nat.{ℕ, _+_, _*_}
+use mathlib.Core.Bool.{cond}
 use mathlib.Core.List.{List, [], _∷_}
 use lib.ListN.{length}
 use Rattle.ground.specs.Tests.{tested}
 use Rattle.ground.specs.Calls.{Left, left}
 use Rattle.kinds.specs.declared.Kind.{Kind}
-use Rattle.kinds.specs.Kinds.{kindOf, sizeOf}
+use Rattle.kinds.specs.Kinds.{kindOf, sizeOf, isKnownModel}
 use Rattle.programs.specs.Memory.{editPlace, partOf}
 use Rattle.programs.specs.Held.{Held}
 use Rattle.controls.specs.declared.Reading.{Reading}
@@ -70,3 +71,10 @@ backCall kindNumber controller memory = tested (kindTest kindNumber ∷ []) read
 
 unfoldable pub backNumber : ℕ → ℕ → List ℕ → ℕ
 backNumber kindNumber controller memory = readingNumber (backCall kindNumber controller memory)
+
+-- "from kind and stored byte the box says whether an amp model is known": 32 for a number that is no kind, then 1 where it is known, 0 where not
+unfoldable pub ampCall : ℕ → ℕ → Reading
+ampCall kindNumber model = tested (kindTest kindNumber ∷ []) reading.Refused (reading.Value (cond (isKnownModel (kindOf kindNumber) model) 1 0))
+
+unfoldable pub ampNumber : ℕ → ℕ → ℕ
+ampNumber kindNumber model = readingNumber (ampCall kindNumber model)

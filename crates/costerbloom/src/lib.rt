@@ -1,4 +1,4 @@
-// The C interface: the box on numbers and byte slices. include/costerbloom.h declares its five functions.
+// The C interface: the box on numbers and byte slices. include/costerbloom.h declares its six functions.
 mod moves;
 mod numbers;
 
@@ -6,7 +6,7 @@ ghost use mathlib.Core.Path.{_≡_};
 ghost use Rattle.ground.specs.Calls.{left};
 ghost use Rattle.programs.specs.Held.{heldOf};
 ghost use Rattle.sockets.specs.Box.{took};
-ghost use Rattle.costerbloom.specs.Numbers.{settingsOf, takeNumbers, wholeNumbers, scaleCall, scaleNumber, memoryBack, backCall, backNumber};
+ghost use Rattle.costerbloom.specs.Numbers.{settingsOf, takeNumbers, wholeNumbers, scaleCall, scaleNumber, memoryBack, backCall, backNumber, ampCall, ampNumber};
 use controls::Reading;
 use framing::Receiver;
 use kinds::Kind;
@@ -165,4 +165,26 @@ fn shown(controller: u32, kind: Kind, memory: &[u8]) -> Reading
     let place = programs::edit_place(kind, podbox::PANEL);
     let end = place + kinds::size(kind) as usize;
     controls::show_back(controller, kind, &memory[place..end])
+}
+
+// Whether an amp model is known: 1 where it is, 0 where not.
+#[no_mangle]
+pub extern "C" fn costerbloom_amp(model: u32, kind: u32) -> u32
+    ensures { λ r. ⌜ r ≡ ampNumber kind model ⌝ }
+{
+    let reading = amp(model, kind);
+    numbers::reading_number(reading)
+}
+
+// The same, told apart by an enum.
+fn amp(model: u32, kind: u32) -> Reading
+    ensures { λ r. ⌜ r ≡ ampCall kind model ⌝ }
+{
+    if kinds::is_kind(kind) {
+        if kinds::is_known_model(model, kinds::kind_of(kind)) {
+            return Reading::Value(1);
+        }
+        return Reading::Value(0);
+    }
+    Reading::Refused(32)
 }

@@ -11,9 +11,10 @@ use borrow.Author.Tests.{leb-true, ltb-true}
 use Rattle.ground.proofs.Tests.{either}
 use Rattle.ground.proofs.InOrder.{tested-map}
 use Rattle.kinds.specs.declared.Kind.the-variants.{BassPod}
+use Rattle.kinds.specs.Kinds.{highestModel}
 use Rattle.controls.specs.declared.Row.{Row}
 use Rattle.controls.specs.Formulas.{nextFor}
-use Rattle.controls.specs.Table.{rows, rowOf}
+use Rattle.controls.specs.Table.{table, rowOf}
 use Rattle.controls.specs.Fields.{readAt, putAt, numberIn}
 use Rattle.controls.specs.Applying.{Changed, changed, storeRow, applyTests, unchanged, applyOf}
 use Rattle.controls.specs.declared.Change.the-variants.{Applied}
@@ -37,7 +38,7 @@ put-beside (suc width) place k byte number edit o =
 
 -- no controller of a Bass POD has byte 46
 beside : (controller : ℕ) → Outside (rowOf BassPod controller .width) (rowOf BassPod controller .place) 46
-unfolding rows
+unfolding table highestModel
 beside controller =
     let apart : ℕ → Row → Bool = λ _ r. cond (ltb 46 (r .place)) true (leb (r .place + r .width) 46) in
     ⊎-elim (λ before. inl (ltb-true _ _ before)) (λ behind. inr (leb-true _ _ behind)) (either _ _ (row-found BassPod apart (λ _. refl) refl controller))

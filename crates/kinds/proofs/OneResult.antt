@@ -5,7 +5,7 @@ use mathlib.Core.List.{List}
 use mathlib.Core.Path.{_≡_}
 use Rattle.ground.proofs.OneResult.{one}
 use Rattle.kinds.specs.declared.Kind.{Kind}
-use Rattle.kinds.specs.Kinds.{isKind, kindOf, sizeOf, hasSpare, deviceOf, headerOf, identityOf, takesProgramChange}
+use Rattle.kinds.specs.Kinds.{isKind, kindOf, sizeOf, hasSpare, deviceOf, headerOf, identityOf, takesProgramChange, highestModel, isKnownModel}
 
 pub is-kind-one : (number : ℕ) (r s : Bool) → r ≡ isKind number → s ≡ isKind number → r ≡ s
 is-kind-one number r s = one
@@ -30,3 +30,9 @@ identity-one kind r s = one
 
 pub takes-program-change-one : (kind : Kind) (r s : Bool) → r ≡ takesProgramChange kind → s ≡ takesProgramChange kind → r ≡ s
 takes-program-change-one kind r s = one
+
+pub highest-model-one : (kind : Kind) (r s : ℕ) → r ≡ highestModel kind → s ≡ highestModel kind → r ≡ s
+highest-model-one kind r s = one
+
+pub is-known-model-one : (kind : Kind) (model : ℕ) (r s : Bool) → r ≡ isKnownModel kind model → s ≡ isKnownModel kind model → r ≡ s
+is-known-model-one kind model r s = one

@@ -1,10 +1,11 @@
-// The kinds of unit that a box may be set as, and all that hangs on the kind: a third kind is a case more of each `match`.
+// The kinds of unit that a box may be set as, and all that hangs on the kind: a further kind is a case more of each `match`.
 ghost use mathlib.Core.Path.{_≡_};
-ghost use Rattle.kinds.specs.Kinds.{isKind, kindOf, sizeOf, hasSpare, deviceOf, headerOf, identityOf, takesProgramChange};
+ghost use Rattle.kinds.specs.Kinds.{isKind, kindOf, sizeOf, hasSpare, deviceOf, headerOf, identityOf, takesProgramChange, highestModel, isKnownModel};
 
 pub enum Kind {
     Pod,
     BassPod,
+    PodPro,
 }
 
 // The bytes of the largest program of any kind: a buffer that serves each of them is as long as this asks.
@@ -15,6 +16,8 @@ pub const POD: u32 = 0;
 
 pub const BASS_POD: u32 = 1;
 
+pub const POD_PRO: u32 = 2;
+
 // A number that is no kind's, however many kinds there are.
 pub const NO_KIND: u32 = u32::MAX;
 
@@ -22,7 +25,7 @@ pub const NO_KIND: u32 = u32::MAX;
 pub fn is_kind(number: u32) -> bool
     ensures { λ r. ⌜ r ≡ isKind number ⌝ }
 {
-    number <= BASS_POD
+    number <= POD_PRO
 }
 
 // The kind of a number; one that is no kind is refused before anybody asks this.
@@ -31,6 +34,9 @@ pub fn kind_of(number: u32) -> Kind
 {
     if number == BASS_POD {
         return Kind::BassPod;
+    }
+    if number == POD_PRO {
+        return Kind::PodPro;
     }
     Kind::Pod
 }
@@ -42,6 +48,7 @@ pub fn size(kind: Kind) -> u8
     match kind {
         Kind::Pod => 72,
         Kind::BassPod => 80,
+        Kind::PodPro => 72,
     }
 }
 
@@ -52,6 +59,7 @@ pub fn has_spare(kind: Kind) -> bool
     match kind {
         Kind::Pod => true,
         Kind::BassPod => false,
+        Kind::PodPro => true,
     }
 }
 
@@ -62,6 +70,7 @@ pub fn device(kind: Kind) -> u8
     match kind {
         Kind::Pod => 0x01,
         Kind::BassPod => 0x02,
+        Kind::PodPro => 0x01,
     }
 }
 
@@ -72,6 +81,7 @@ pub fn header(kind: Kind) -> [u8; 5]
     match kind {
         Kind::Pod => *b"\xF0\x00\x01\x0C\x01",
         Kind::BassPod => *b"\xF0\x00\x01\x0C\x02",
+        Kind::PodPro => *b"\xF0\x00\x01\x0C\x01",
     }
 }
 
@@ -82,6 +92,7 @@ pub fn identity(kind: Kind) -> [u8; 4]
     match kind {
         Kind::Pod => *b"\x00\x00\x00\x01",
         Kind::BassPod => *b"\x02\x00\x00\x00",
+        Kind::PodPro => *b"\x00\x00\x00\x04",
     }
 }
 
@@ -92,5 +103,24 @@ pub fn takes_program_change(kind: Kind) -> bool
     match kind {
         Kind::Pod => false,
         Kind::BassPod => true,
+        Kind::PodPro => false,
     }
+}
+
+// The highest amp model that is known.
+pub fn highest_model(kind: Kind) -> u8
+    ensures { λ r. ⌜ r ≡ highestModel kind ⌝ }
+{
+    match kind {
+        Kind::Pod => 27,
+        Kind::BassPod => 15,
+        Kind::PodPro => 31,
+    }
+}
+
+// Whether an amp model is known: a stored byte, or any number.
+pub fn is_known_model(model: u32, kind: Kind) -> bool
+    ensures { λ r. ⌜ r ≡ isKnownModel kind model ⌝ }
+{
+    model <= highest_model(kind) as u32
 }

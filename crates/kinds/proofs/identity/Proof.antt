@@ -5,4 +5,12 @@ use Rattle.kinds.proofs.identity.Tie as tie
 
 pub identity-spec : {M : Type 1} → statement M
 unfolding identityOf
-identity-spec = tie.close (tie.spec (λ c. search needs) (λ c. search needs) (λ c. rw (c .before .before .enum-told .given .1)) (λ c. rw (c .before .before .enum-told2 .given .1)))
+identity-spec =
+    tie.close
+    (tie.spec
+    (λ c. search needs)
+    (λ c. search needs)
+    (λ c. search needs)
+    (λ c. rw (c .before .before .enum-told .given .1))
+    (λ c. rw (c .before .before .enum-told2 .given .1))
+    (λ c. rw (c .before .before .enum-told3 .given .1)))

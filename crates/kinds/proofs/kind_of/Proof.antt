@@ -5,4 +5,4 @@ use Rattle.kinds.proofs.kind_of.Tie as tie
 
 pub kind-of-spec : {M : Type 1} → statement M
 unfolding kindOf
-kind-of-spec = tie.close (tie.spec (λ c. search tests) (λ c. search tests))
+kind-of-spec = tie.close (tie.spec (λ c. search tests) (λ c. search tests) (λ c. search tests))

@@ -2,15 +2,16 @@
 use native.Mathlib.Omega.{arith}
 use Rattle.ground.proofs.Tests.{tests}
 use Rattle.kinds.specs.declared.Kind.the-variants.{Pod}
+use Rattle.kinds.specs.Kinds.{highestModel}
 use Rattle.controls.specs.Formulas.{numberBy}
-use Rattle.controls.specs.Table.{rows, rowOf}
+use Rattle.controls.specs.Table.{table, rowOf}
 use Rattle.controls.proofs.Columns.{by-least, at-formula, at-controller}
 use borrow.Author.Needs.{needs}
 use Rattle.controls.proofs.formulas.number_for.Statement.{statement}
 use Rattle.controls.proofs.formulas.number_for.Tie as tie
 
 pub number-for-spec : {M : Type 1} → statement M
-unfolding numberBy rowOf rows
+unfolding numberBy rowOf table highestModel
 number-for-spec =
     tie.close
     (tie.spec

@@ -1,13 +1,14 @@
 -- The table in the code is the rule's, as antt computes it: one comparison of all 768 numbers.
+use Rattle.kinds.specs.Kinds.{highestModel}
 use Rattle.controls.specs.Formulas.{numberBy, numberFor}
-use Rattle.controls.specs.Table.{rows, rowOf}
+use Rattle.controls.specs.Table.{table, rowOf}
 use Rattle.controls.proofs.Columns.{in-column}
 use borrow.Author.Needs.{needs}
 use Rattle.controls.proofs.sheet.on_sheet.Statement.{statement}
 use Rattle.controls.proofs.sheet.on_sheet.Tie as tie
 
 pub on-sheet-spec : {M : Type 1} → statement M
-unfolding rows rowOf numberBy numberFor
+unfolding table highestModel rowOf numberBy numberFor
 on-sheet-spec =
     tie.close
     (tie.spec

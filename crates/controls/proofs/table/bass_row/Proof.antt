@@ -3,13 +3,14 @@ use mathlib.Core.Path.{_∙_, sym}
 use Rattle.ground.proofs.Tests.{tests}
 use borrow.Author.Needs.{needs}
 use Rattle.kinds.specs.declared.Kind.the-variants.{BassPod}
-use Rattle.controls.specs.Table.{unlisted, rows, rowOf}
+use Rattle.kinds.specs.Kinds.{highestModel}
+use Rattle.controls.specs.Table.{unlisted, rows, table, rowOf}
 use Rattle.controls.proofs.Rows.{not-found}
 use Rattle.controls.proofs.table.bass_row.Statement.{statement}
 use Rattle.controls.proofs.table.bass_row.Tie as tie
 
 pub bass-row-spec : {M : Type 1} → statement M
-unfolding rowOf rows
+unfolding rowOf table highestModel
 bass-row-spec =
     tie.close
     (tie.spec
