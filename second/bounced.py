@@ -5,7 +5,8 @@ from itertools import chain, combinations
 from random import Random
 
 from box import END_BYTE
-from kinds import ALL, DUMP, EDIT, KINDS, PROGRAM, PROGRAMS, REQUEST, others
+from kinds import (ALL, DUMP, EDIT, KINDS, PROGRAM, PROGRAMS, REQUEST, around,
+                   strangers)
 from messages import (PAD, all_forms, changed, data_start, dump, identity,
                       in_each_length, inserted, noise, request, resized)
 
@@ -53,7 +54,7 @@ def padded(message, length):
 
 def too_long(right):
     """Yield messages around the longest of each kind, and far above."""
-    borders = [kind.longest + more for kind in KINDS for more in (-1, 0, 1)]
+    borders = around(kind.longest for kind in KINDS)
     for length in borders:
         yield bytes(length)
     for length in (*borders, 65535, 65536, 65537, 200000):
@@ -100,7 +101,7 @@ def foreign(right):
         yield changed(right.one, place, byte ^ 1)
     for length in range(2, len(header)):
         yield header[:length] + END_BYTE
-    for other in others(right.kind):
+    for other in strangers(right.kind):
         yield from all_forms(other, 4)
         yield changed(right.one, 4, other.device)
         yield changed(right.ask_edit, 4, other.device)
@@ -184,9 +185,9 @@ def wrong_length(message):
 
 def faults_of(kind, message):
     """Return the ways to spoil a message, in the order of the checks."""
-    other = others(kind)[0].device
+    not_ours = strangers(kind)[0].device
     faults = [lambda whole: padded(whole, kind.longest + 1),  # 10
-              lambda whole: changed(whole, 4, other),         # 11
+              lambda whole: changed(whole, 4, not_ours),      # 11
               lambda whole: changed(whole, 5, 2),             # 12
               wrong_length]                                   # 13
     if message[6] == PROGRAM:

@@ -1,4 +1,4 @@
-"""The box of document 01 with Reqs 01, 04 and 06, from their text alone."""
+"""The box of document 01 with Reqs 01, 04, 06 and 07, from their text."""
 
 from typing import NamedTuple, Optional
 
@@ -28,7 +28,7 @@ NO_CONTROLLER = 21    # "channel message other than a controller"
 OTHER_IDENTITY = 22   # "identity request for another channel, not omni"
 NO_SOCKET = 31        # "socket not 0 or 1"
 NOT_SOUND = 32        # "receiver not sound, or a setting out of its range"
-NO_KIND = 32          # Req 04: "a kind that is neither gives 32"
+NO_KIND = 32          # Req 07: "32 is for none of the three kinds"
 
 # Marks: "whether the spare byte was received"
 RECEIVED, NOT_RECEIVED = 1, 0
@@ -302,7 +302,7 @@ class Box:
 
         These buffers are lent to it.
         """
-        # Req 04: "a kind that is neither gives 32, just before 30"
+        # Req 04: "gives 32, just before 30"
         if self.kind is None:
             return NO_KIND
         if self.is_short(*buffers):
@@ -327,6 +327,13 @@ class Box:
         # where memory is too short, so is what is lent of the edit buffer
         lent = max(self.lent[MEMORY] - self.kind.edit_start, 0)
         return back(self.kind, controller, self.edit[:lent])
+
+    def amp(self, model: int) -> tuple:
+        """Return 1 for an amp model that is known, 0 for one that isn't."""
+        if self.kind is None:
+            return 'refused', NO_KIND
+        # Req 07: "the box says whether an amp model is known"
+        return 'value', int(self.kind.knows(model))
 
     def judge_channel(self, status, first, second=0):
         """Return the number of a finished channel message."""

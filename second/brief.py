@@ -1,13 +1,15 @@
 """The script that is committed: every number, and each rule a few times."""
 
 from functools import partial
+from itertools import product
 from random import Random
 
 from box import REPLY
 from chance import add_random
 from judging import add_identities, add_orders, add_others, add_unknown
-from kinds import EDIT, EVERY_CONTROLLER, PROGRAM, PROGRAMS, others
-from lent import (NO_CONTROLLERS, add_back, add_back_order, add_beyond,
+from kinds import (AMP_BORDERS, BASS, EDIT, EVERY_CONTROLLER, POD, PRO,
+                   PROGRAM, PROGRAMS)
+from lent import (NO_CONTROLLERS, VALUES, add_back, add_back_order, add_beyond,
                   add_lengths, add_long_buffers, add_odd, add_receivers,
                   add_scale_order, add_scaling, add_stale, add_turned_away,
                   add_wrong_marks, fill, full, sound, unsound)
@@ -18,12 +20,13 @@ from moves import MOST
 from player import ROOMS
 from scenes import (EVERY_NUMBER, add_again, add_among, add_counts,
                     add_high, add_list_order, add_list_pieces, add_moves,
-                    add_no_sockets_lent, add_our_channel, add_selected)
+                    add_no_sockets_lent, add_our_channel, add_selected,
+                    listed)
 from script import Script
 from sockets import (add_apart, add_changes, add_channels, add_controllers,
                      add_cuts, add_mixed, add_numbers, add_panel, add_pieces,
                      add_raised, add_real_time, add_recalled, add_running,
-                     add_shared)
+                     add_shared, feed_moves)
 from switched import (NO_KINDS, add_no_kinds, add_other_buffers,
                       add_switched)
 
@@ -46,7 +49,7 @@ def add_opening(script):
         script.whole(message)
         hand(message)
     # 4; 3, 17, 18 and 19 or 17; 20; 21 or 1; 21
-    script.send_hex(1, 'F0 B0 0D 01 00 00 0C 1C 13 06 37 00 B1 0D 01'
+    script.send_hex(1, 'F0 B0 0D 01 00 00 0C 20 13 06 37 00 B1 0D 01'
                        'C0 05 25 F7')
     script.receiver(1, **full(kind))
     script.send_hex(1, '00 F7')                                 # 10
@@ -66,6 +69,7 @@ def add_opening(script):
     fill(script, rule.field, 0xFF)
     script.back(controller, 13)                                 # 40
     script.scale(127)
+    script.amp(*AMP_BORDERS, 255, 256, 1 << 24)                 # known or not
 
 
 def add_lent(script, shown):
@@ -145,8 +149,8 @@ def add_pod(script):
     add_spares(script, partial(script.feed, 1))
 
 
-def add_other(script):
-    """Another kind's part: what hangs on the kind."""
+def add_bass(script):
+    """A Bass POD's part: what hangs on the kind, as Req 04 has it."""
     kind = script.kind
     add_receivers(script, 0, unsound(kind)[:6], '0D')
     add_receivers(script, 1, sound(kind)[:9], '05 F7')
@@ -165,17 +169,29 @@ def add_other(script):
         script.feed(1, identity(channel))
 
 
+def add_pro(script):
+    """A POD Pro's part: what is not as for a POD, as Req 07 has it."""
+    controllers = (9, 12)
+    moves = listed(product(controllers, (0, 1, 2, 126, 127, *AMP_BORDERS)))
+    script.feed(0, identity(0x7F))
+    add_scaling(script, controllers, VALUES)
+    for controller in controllers:
+        add_back(script, controller)
+    script.moves(listed((controller, 0) for controller in script.kind.table))
+    script.moves(moves)
+    feed_moves(script, 1, moves)
+    script.whole(request(script.kind, EDIT))
+
+
 def make_brief():
     """Return the script that is committed."""
     script = Script()
     add_beyond(script)
-    add_opening(script)
-    add_pod(script)
-    for kind in others(script.kind):
+    for kind, add_part in ((POD, add_pod), (BASS, add_bass), (PRO, add_pro)):
         script.become(kind)
         add_opening(script)
-        add_other(script)
-    add_switched(script)
+        add_part(script)
+    add_switched(script, ((POD, BASS), (BASS, PRO), (PRO, POD)))
     add_random(script, Random(4), 1100, 6)
     # "A rest of fewer than 4 bytes at the end is ignored"
     return bytes(script.commands) + b'WWW'

@@ -1,22 +1,27 @@
 """Check controllers.py, box.py and moves.py against document 01's cases.
 
-Cases of Reqs 01, 04, 05 and 06, of document 02, stand beside them. The
-numbers here are the documents', and none of them is computed from a kind.
+Cases of Reqs 01 and 04 to 07, of document 02, stand beside them. The numbers
+here are the documents', and none of them is computed from a kind.
 """
 
-from itertools import product
+from itertools import permutations, product
 
 from box import Box, Receiver
 from controllers import apply, back, join, read, scale, split, store
-from kinds import BASS, KINDS, POD
+from kinds import BASS, KINDS, POD, PRO
 from lent import sound, unsound
 from moves import carry_out, in_pairs
 from switched import NO_KINDS
 
 LONG = (26, 27, 28)  # "30 and 62, bytes 26 to 28"
-# "identity 02 00 00 00"; the revision of a fresh box
+# "identity 02 00 00 00", "identity 00 00 00 04"; the revision of a fresh box
 POD_REPLY = 'F0 7E 7F 06 02 00 01 0C 00 00 00 01 30 31 30 30 F7'
 BASS_REPLY = 'F0 7E 7F 06 02 00 01 0C 02 00 00 00 30 31 30 30 F7'
+PRO_REPLY = 'F0 7E 7F 06 02 00 01 0C 00 00 00 04 30 31 30 30 F7'
+# "one edit buffer, 72 bytes each"; Req 04: "80 data bytes a program"
+SIZES = {POD: 72, BASS: 80, PRO: 72}
+# Req 07: "All else is as for a POD, including Req 06."
+PODS = (POD, PRO)
 
 
 def expect(case, got, wanted):
@@ -255,8 +260,9 @@ def check_receivers():
     for count, pod, bass in ((5192, True, True), (5193, False, True),
                              (5768, False, True), (5769, False, False)):
         receiver = receiver_with({'stored': count, 'inside': 1})
-        expect(f'{count} stored', (receiver.is_sound(POD),
-                                   receiver.is_sound(BASS)), (pod, bass))
+        expect(f'{count} stored', [receiver.is_sound(kind)
+                                   for kind in (POD, PRO, BASS)],
+               [pod, pod, bass])
 
 
 def receiver_with(parts):
@@ -276,21 +282,23 @@ def check_kinds():
     # Whole lengths are 170, 169 and 5,769; requests keep theirs."; Req 06:
     # "whole lengths 152, 151 and 5,121 too", "The Bass kind has one length"
     for kind, memory, longest, lengths in (
-            (POD, 2664, 5193, [(9,), (8,), (8,), (154, 152), (153, 151),
-                               (5193, 5121)]),
+            *((kind, 2664, 5193, [(9,), (8,), (8,), (154, 152), (153, 151),
+                                  (5193, 5121)]) for kind in PODS),
             (BASS, 2960, 5769, [(9,), (8,), (8,), (170,), (169,), (5769,)])):
         expect(f'{kind.word}, lent', kind.least,
                (memory, longest, longest, longest, 37))
         expect(f'{kind.word}, lengths', [*kind.lengths.values()], lengths)
     # "80 data bytes a program (160 half bytes), all programs 5,760"
     expect('bass, half bytes', (BASS.halves, BASS.all_halves), (160, 5760))
-    # "These 49 controllers are all."; "Only these controllers"
-    expect('controllers', [len(kind.table) for kind in KINDS], [49, 10])
+    # "These 49 controllers are all."; "Only these controllers"; "and
+    # controller 9"
+    expect('controllers', [len(kind.table) for kind in KINDS], [49, 10, 50])
 
 
 def check_identities():
     """What each kind says it is, and that it keeps to its channel."""
-    for kind, reply in ((POD, POD_REPLY), (BASS, BASS_REPLY)):
+    for kind, reply in ((POD, POD_REPLY), (BASS, BASS_REPLY),
+                        (PRO, PRO_REPLY)):
         box = Box(kind)
         expect(f'{kind.word}, identity',
                send(box, 'F0 7E 7F 06 01 F7 F0 7E 01 06 01 F7'),
@@ -332,8 +340,9 @@ def check_bass_forms():
     for data, number, length, memory in cases:
         check_form(BASS, data, (number, length), memory)
     # and the Bass POD's header for a POD
-    check_form(POD, f'{ours} 00 01 F7', (11, 0), bytes(2664))
-    check_form(POD, f'{ours} 01 01 00 {one} F7', (11, 0), bytes(2664))
+    for kind in PODS:
+        check_form(kind, f'{ours} 00 01 F7', (11, 0), bytes(2664))
+        check_form(kind, f'{ours} 01 01 00 {one} F7', (11, 0), bytes(2664))
 
 
 def check_bass_moves():
@@ -349,20 +358,26 @@ def check_bass_moves():
     )
     for controller, place, values in moves:
         for value, stored in values.items():
-            check_move(controller, value, place, stored)
+            check_move(BASS, controller, value, place, stored)
     for controller in {*range(130)} - {move[0] for move in moves}:
-        case = f'bass, {controller}'
-        buffer = bytearray(80)
-        expect(case, apply(BASS, controller, 0, buffer), 17)
-        expect(case, scale(BASS, controller, 200), ('refused', 17))
-        expect(case, back(BASS, controller, buffer), ('refused', 17))
+        check_missing(BASS, controller)
     expect('bass, 79 bytes', back(BASS, 12, bytes(79)), ('refused', 30))
 
 
-def check_move(controller, value, place, stored):
-    """A move on a Bass box, scaled and applied; None is out of range."""
-    case = f'bass, {controller} at {value}'
-    box = Box(BASS)
+def check_missing(kind, controller):
+    """A controller that a kind has not: 17, and nothing is stored."""
+    case, buffer = f'{kind.word}, {controller}', bytearray(80)
+    for value in (0, 1, 2, 126, 127, 128):
+        expect(case, apply(kind, controller, value, buffer), 17)
+        expect(case, scale(kind, controller, value), ('refused', 17))
+    expect(case, buffer, bytes(80))
+    expect(case, back(kind, controller, buffer), ('refused', 17))
+
+
+def check_move(kind, controller, value, place, stored):
+    """A move on a fresh box, scaled and applied; None is out of range."""
+    case = f'{kind.word}, {controller} at {value}'
+    box = Box(kind)
     data = bytes((0xB0, controller, value)).hex()
     if stored is None:
         expect(case, box.scale(controller, value), ('refused', 18))
@@ -370,8 +385,9 @@ def check_move(controller, value, place, stored):
     else:
         expect(case, box.scale(controller, value), ('value', stored))
         expect(case, send(box, data), [(2, 3, 0)])
+    size = SIZES[kind]
     expect(case, box.memory,
-           bytes(2880) + buffer_with({place: stored or 0}, 80))
+           bytes(36 * size) + buffer_with({place: stored or 0}, size))
 
 
 def check_bass_back():
@@ -405,15 +421,15 @@ def check_changes():
                    [(1, answer, 0), (2, answer, 0)])
             edit = memory[80 * program:][:80] if copied else memory[2880:]
             expect(case, box.memory, memory[:2880] + edit)
-        box = Box(POD)
-        expect(f'program change {number}, pod',
-               send(box, f'C0 {number:02X}'), [(1, 21, 0)])
-        expect(f'program change {number}, pod', box.memory, bytes(2664))
+        for kind in PODS:
+            box, case = Box(kind), f'program change {number}, {kind.word}'
+            expect(case, send(box, f'C0 {number:02X}'), [(1, 21, 0)])
+            expect(case, box.memory, bytes(2664))
 
 
 def check_order():
     """32 for the kind "just before 30", in every call."""
-    for number in (*NO_KINDS, 65536, 65537, 1 << 32):
+    for number in (*NO_KINDS, 65536, 65537, 65538, 1 << 32):
         box = Box(POD)
         box.kind_number, box.lent = number, [0] * 5
         case = f'kind {number}'
@@ -421,6 +437,7 @@ def check_order():
         expect(case, box.whole(b''), (32, 0))
         expect(case, box.scale(128, 128), ('refused', 32))
         expect(case, box.back(128), ('refused', 32))
+        expect(case, box.amp(0), ('refused', 32))
     # a POD's buffers lent to a Bass call
     box = Box(POD)
     box.kind_number = 1
@@ -495,8 +512,8 @@ def check_bass_lists():
 
 def check_one_by_one():
     """A list against "the moves sent one by one on our channel"."""
-    moves = [*product((0, 1, 12, 13, 19, 30, 42, 51, 55, 58, 62, 64, 127),
-                      (0, 1, 5, 14, 15, 16, 27, 28, 64, 127))]
+    moves = [*product((0, 1, 9, 12, 13, 19, 30, 42, 51, 55, 58, 62, 64, 127),
+                      (0, 1, 5, 14, 15, 16, 27, 28, 31, 32, 64, 127))]
     for kind, (channel, omni), socket in product(
             KINDS, ((0, 0), (9, 0), (15, 1)), (0, 1)):
         box, other = Box(kind), Box(kind)
@@ -539,7 +556,7 @@ def check_list_order():
         memory = bytes(box.memory)
         numbers = bytearray(len(moves) - no_room)
         if no_kind:
-            box.kind_number = 2
+            box.kind_number = 3  # "none of the three kinds"
         box.lent[0] -= short
         box.settings.omni = 2 if wrong_setting else 0
         # "Refusals, tested 33, 34, then 30 and 32"
@@ -593,10 +610,11 @@ def marks_with(places, mark, others):
 def check_dump(data, places, size):
     """A dump of a POD, over full memory and over marks of either sort."""
     message = bytes.fromhex(data)
-    for before, socket in product((SET, CLEAR), (None, 0, 1)):
-        box = Box(POD)
+    for kind, before, socket in product(PODS, (SET, CLEAR), (None, 0, 1)):
+        box = Box(kind)
         box.memory[:], box.marks[:] = b'\xEE' * 2664, before
-        case = f'{len(message)} bytes, marks of {before[0]}, on {socket}'
+        case = (f'{kind.word}, {len(message)} bytes, marks of {before[0]}, '
+                f'on {socket}')
         if socket is None:
             expect(case, box.whole(message), (1, 0))
         else:
@@ -621,8 +639,9 @@ def check_short_dumps():
                           ('01 02 00', (152, 154, 5120, 5122, 5192))):
         for length in lengths:
             front = bytes.fromhex(f'{HEAD} {form}')
-            check_kept(POD, front + bytes(length - 1 - len(front)) + b'\xF7',
-                       13)
+            for kind in PODS:
+                check_kept(kind, front + bytes(length - 1 - len(front))
+                           + b'\xF7', 13)
 
 
 def check_kept(kind, message, number):
@@ -645,7 +664,8 @@ def check_refused_dumps():
             (f'01 02 01 {every}', 15), (f'01 00 23 00 {one[:-2]} 10', 16),
             (f'01 01 00 10 {one[2:]}', 16), (f'01 02 00 {every[:-2]} 10', 16),
             (f'02 00 23 00 {one}', 12), (f'01 03 00 {every}', 12)):
-        check_kept(POD, bytes.fromhex(f'{HEAD} {form} F7'), number)
+        for kind in PODS:
+            check_kept(kind, bytes.fromhex(f'{HEAD} {form} F7'), number)
     # "The Bass kind has one length only."
     for form in (f'01 00 23 00 {one}', f'01 01 00 {one}',
                  f'01 00 23 00 {"00" * 158}', f'01 01 00 {"00" * 158}',
@@ -667,8 +687,9 @@ def check_reply(box, asked, front, programs):
 def check_short_replies():
     """Replies for marks of either sort; the spare bytes stay in memory."""
     programs = [bytes((place,)) * 72 for place in range(1, 38)]
-    for places in ((), (0,), (35,), (36,), (3, 36), range(36), range(37)):
-        box = Box(POD)
+    for kind, places in product(PODS, (
+            (), (0,), (35,), (36,), (3, 36), range(36), range(37))):
+        box = Box(kind)
         # the spare byte is not 0 where a mark is clear: it stays
         box.memory[:], box.marks[:] = b''.join(programs), marks_with(
             places, 0, 1)
@@ -720,7 +741,7 @@ def check_called(box, numbers):
 
 
 def check_marks_left():
-    """What leaves the marks: all on a Bass box, all but dumps on a POD."""
+    """What leaves the marks: all on a Bass box, all but dumps elsewhere."""
     one = '0A 07' * 80
     for kind, marks in product(KINDS, (SET, CLEAR, marks_with([36], 0, 1))):
         box = Box(kind)
@@ -739,6 +760,89 @@ def check_marks_left():
             message = bytes.fromhex(f'F0 00 01 0C 02 {form} F7')
             expect(f'bass, {form[:11]}', box.whole(message), answer)
             expect(f'bass, {form[:11]}', box.marks, marks)
+
+
+# Req 07
+
+
+def check_gain():
+    """Controller 9: "to byte 35 by v/2"; "9 on a POD is still 17"."""
+    for value, stored in ((0, 0), (1, 0), (2, 1), (126, 63), (127, 63)):
+        check_move(PRO, 9, value, 35, stored)
+    expect('9 at 128', scale(PRO, 9, 128), ('refused', 18))
+    for kind in (POD, BASS):
+        check_missing(kind, 9)
+    for stored, shown in ((0, ('value', 0)), (63, ('value', 126)),
+                          (64, ('refused', 40))):
+        expect(f'back 9 of {stored}', back(PRO, 9, buffer_with({35: stored})),
+               shown)
+
+
+def check_models():
+    """Amp models: which are known, taken by controller 12 and shown back."""
+    # "up to 27 on a POD, 31 on a POD Pro, 15 on a Bass POD"
+    for kind, place, top in ((POD, 8, 27), (PRO, 8, 31), (BASS, 3, 15)):
+        for model in (0, 15, 16, *range(27, 33)):
+            known = model <= top
+            case = f'{kind.word}, amp model {model}'
+            expect(case, Box(kind).amp(model), ('value', 1 if known else 0))
+            check_move(kind, 12, model, place, model if known else None)
+            expect(case, back(kind, 12, buffer_with({place: model}, 80)),
+                   ('value', model) if known else ('refused', 40))
+        # no bit is cut
+        for model in (127, 128, 255, 256, 65536, 2**32 - 1):
+            expect(f'{kind.word}, amp model {model}', Box(kind).amp(model),
+                   ('value', 0))
+
+
+def check_either():
+    """Each dump there is: "Either unit's dump may be stored in either"."""
+    for (kind, other), size in product(permutations(PODS), (71, 72)):
+        # byte 8 is 31
+        one = split(bytes(8) + b'\x1F' + b'\xA7' * (size - 9))
+        for asked, front, programs in (
+                ('00 00 23', '01 00 23 00', 1), ('00 01', '01 01 00', 1),
+                ('00 02', '01 02 00', 36)):
+            check_carried(kind, other, f'{HEAD} {asked} F7', bytes.fromhex(
+                f'{HEAD} {front}') + one * programs + b'\xF7')
+
+
+def check_carried(kind, other, asked, given):
+    """A dump that one kind stores and another sends, and stores in turn."""
+    box, case = Box(kind), f'{kind.word}, {len(given)} bytes'
+    expect(case, box.whole(given), (1, 0))
+    box.kind_number = other.number
+    expect(case, box.whole(bytes.fromhex(asked)), (2, len(given)))
+    expect(case, box.reply[:len(given)], given)
+    fresh = Box(other)
+    expect(case, send(fresh, given.hex()), [(len(given) - 1, 1, 0)])
+    expect(case, (fresh.memory, fresh.marks), (box.memory, box.marks))
+
+
+def check_gain_lists():
+    """One list with 9 and amp models, for each kind."""
+    for kind, noted, changes in (
+            (POD, (17, 3, 18, 18, 18, 17, 17), {8: 27}),
+            (BASS, (17, 18, 18, 18, 18, 17, 17), {}),
+            (PRO, (3, 3, 3, 3, 18, 18, 3), {8: 31, 35: 1})):
+        check_list(kind, '09 7F 0C 1B 0C 1C 0C 1F 0C 20 09 80 09 02', noted,
+                   buffer_with(changes, SIZES[kind]))
+
+
+def check_as_pod():
+    """Every other controller of a POD Pro against a POD's."""
+    buffers = [buffer_with({46: setting, 26: 7}) for setting in range(17)]
+    for controller in {*range(130)} - {9, 12}:
+        for value in range(130):
+            expect(f'{controller} at {value}', scale(PRO, controller, value),
+                   scale(POD, controller, value))
+        for buffer, value in product(buffers, (0, 1, 64, 127, 128)):
+            pod, pro = bytearray(buffer), bytearray(buffer)
+            expect(f'{controller} at {value}',
+                   (apply(PRO, controller, value, pro), pro,
+                    back(PRO, controller, pro)),
+                   (apply(POD, controller, value, pod), pod,
+                    back(POD, controller, pod)))
 
 
 def check():
@@ -770,6 +874,11 @@ def check():
     check_short_replies()
     check_marks_lent()
     check_marks_left()
+    check_gain()
+    check_models()
+    check_either()
+    check_gain_lists()
+    check_as_pod()
 
 
 check()

@@ -2,8 +2,9 @@
 
 from box import REPLY
 from judging import WRONG_SETTINGS
-from kinds import (ALL, EDIT, EVERY_CONTROLLER, KINDS, MARK_COUNT, PROGRAM,
-                   PROGRAMS, START, others)
+from kinds import (ALL, AMP_BORDERS, EDIT, EVERY_CONTROLLER, KINDS,
+                   MARK_COUNT, PROGRAM, PROGRAMS, START, around, others,
+                   strangers)
 from lent import (COUNTS, NO_CONTROLLERS, NO_SOCKETS, VALUES, fill,
                   numbers_for, select, sound, unsound)
 from messages import (changed, dump, edit_with, identity, in_each_length,
@@ -14,7 +15,7 @@ from sockets import CHANGES
 from switched import NO_KINDS
 
 REAL_TIME = range(0xF8, 0x100)  # "F8 to FF"
-BORDERS = (*range(8), 15, 16, 27, 28, 63, 64, 126, 127)  # of values
+BORDERS = (*range(8), *AMP_BORDERS, 63, 64, 126, 127)  # of values
 
 
 # Fragments: bytes that one socket sends in a row to a box of a kind
@@ -78,7 +79,7 @@ def storing_all(kind, chance):
 
 def foreign(kind, chance):
     """Return a request or a dump of another unit."""
-    return chance.choice((asking, storing))(chance.choice(others(kind)),
+    return chance.choice((asking, storing))(chance.choice(strangers(kind)),
                                             chance)
 
 
@@ -206,7 +207,8 @@ def add_calls(script, chance):
             lambda: script.add('V'),
             lambda: script.moves(short_list(kind, chance)),
             lambda: script.scale(chance.choice(VALUES)),
-            lambda: script.back(chance.choice(EVERY_CONTROLLER))))
+            lambda: script.back(chance.choice(EVERY_CONTROLLER)),
+            lambda: script.amp(chance.choice(VALUES))))
         call()
 
 
@@ -314,8 +316,8 @@ def turn_long_message(script, chance):
 
 def turn_length(script, chance):
     """Change the length of the message."""
-    lengths = (length + more for kind in KINDS
-               for length in kind.every_length for more in (0, 1))
+    lengths = around((length for kind in KINDS
+                      for length in kind.every_length), (0, 1))
     script.edit('L', chance.choice((0, 1, 2, *lengths)))
 
 
@@ -360,12 +362,22 @@ def turn_as_moves(script, _):
     script.add('V')
 
 
+def wide(chance):
+    """Return a number n + 2^24 x v that would be a value if it were cut."""
+    return (some_value(chance) + 256 * chance.randrange(2)
+            + (chance.randrange(256) << 24))
+
+
+def turn_amp(script, chance):
+    """Ask whether amp models are known: two near the borders, a wide one."""
+    script.amp(chance.choice(AMP_BORDERS), chance.randrange(40), wide(chance))
+
+
 def turn_scale(script, chance):
     """Ask for scaled values, in the table and out of it."""
     script.controller(chance.choice((*EVERY_CONTROLLER, *NO_CONTROLLERS,
                                      chance.getrandbits(32))))
-    script.scale(chance.choice(VALUES), chance.randrange(130),
-                 chance.randrange(256) + (chance.randrange(256) << 24))
+    script.scale(chance.choice(VALUES), chance.randrange(130), wide(chance))
 
 
 def turn_back(script, chance):
@@ -437,7 +449,7 @@ TURNS = {
     turn_unsound: 4, turn_receiver: 3, turn_stale: 2, turn_socket: 2,
     turn_message: 5, turn_long_message: 1, turn_length: 1, turn_byte: 3,
     turn_whole: 4, turn_feed: 6, turn_scale: 4, turn_back: 3, turn_field: 6,
-    turn_raised: 4, turn_poke: 3,
+    turn_raised: 4, turn_poke: 3, turn_amp: 4,
     turn_marks: 4, turn_wrong_mark: 3, turn_spare: 4,
     turn_moves: 8, turn_too_many: 1, turn_noted: 4, turn_as_moves: 3,
 }

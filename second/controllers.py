@@ -1,8 +1,8 @@
 """Half bytes and controllers, written from the text of the documents alone.
 
-The page is document 01. Req 01, of document 02, changes one rule of it, and
-Req 04 has a page of its own; kinds.py has the pages' tables. A kind is one of
-those of kinds.py.
+The page is document 01. Of document 02, Req 01 changes one rule of it, Req 07
+has two rules of its own for one kind, and Req 04 has a page of its own;
+kinds.py has the pages' tables. A kind is one of those of kinds.py.
 """
 
 from typing import Callable, NamedTuple, Optional

@@ -4,7 +4,7 @@ A part is given the kind of the box, or a script that leaves it, and hand,
 which hands a message over: whole, or on a socket.
 """
 
-from kinds import ALL, EDIT, PROGRAM, others
+from kinds import ALL, EDIT, PROGRAM, strangers
 from messages import (all_forms, changed, data_start, dump, dumps, forms,
                       identity, in_each_length, noise, request, resized,
                       wave, waves)
@@ -90,7 +90,7 @@ def add_headers(kind, hand):
 
 def add_others(kind, hand):
     """Another unit's forms, and a dump with one unit's header only."""
-    for other in others(kind):
+    for other in strangers(kind):
         for message in all_forms(other, 7):
             hand(message)                            # 11, or 10
         for message in all_forms(kind, 7):
@@ -104,7 +104,7 @@ def add_orders(kind, hand):
     """Several faults at once: the first number in the order wins."""
     bad = changed(wave(8, kind.halves), 70, 0x10)
     worst = dump(kind, PROGRAM, bad, 0x24, version=1)
-    not_ours = others(kind)[0].device
+    not_ours = strangers(kind)[0].device
     # "A finished SysEx is tested 10, 11, 12, 13, 14, 15, 16"
     for message in (
             changed(changed(resized(worst, 20), 4, not_ours), 6, 3),  # 11

@@ -1,11 +1,12 @@
 """What hangs on the kind of box: one entry each, and what follows from it.
 
 POD's page is document 01, with Reqs 01 and 06 of document 02; BASS's is Req
-04, whose text names what it takes from source document 001. A further kind is
-a further entry of KINDS.
+04, whose text names what it takes from source document 001; PRO is a POD but
+for what Req 07 names, from source document 004. A further kind is a further
+entry of KINDS.
 """
 
-from dataclasses import dataclass
+from dataclasses import dataclass, replace
 from functools import cached_property
 from itertools import chain
 
@@ -30,7 +31,9 @@ class Kind:
     device: int      # the header's last byte
     identity: bytes  # what an identity reply says it is
     changes: range   # program changes that copy a program, in number order
-    own: tuple       # its controllers: pairs, formula, highest value
+    amp: str         # the amp model's pair, taken as received
+    top_model: int   # the highest amp model known, and taken
+    own: tuple       # its other controllers: pairs, formula, highest value
     shared: tuple    # values of byte 46, then pairs, each with a formula
     at_least: dict   # controllers whose number is raised, and to what
 
@@ -116,13 +119,18 @@ class Kind:
 
     @cached_property
     def table(self):
-        """Return the rules of its controllers, in the page's order."""
-        return read_page(self.own, self.shared, self.at_least)
+        """Return the rules of its controllers, the amp model's first."""
+        amp = self.amp, lambda v: v, self.top_model
+        return read_page((amp, *self.own), self.shared, self.at_least)
 
     @property
     def has_effects(self):
         """Say whether some of its controllers want an effect selected."""
         return bool(self.shared)
+
+    def knows(self, model):
+        """Say whether an amp model is known."""
+        return model <= self.top_model
 
 
 # "v is the value received, division drops the remainder, a pair c>b is
@@ -136,6 +144,8 @@ POD = Kind(
     device=0x01,  # "All the rest begins F0 00 01 0C 01"
     identity=bytes.fromhex('00 00 00 01'),
     changes=range(0),  # "channel message other than a controller": 21
+    amp='12>8',
+    top_model=27,  # "12>8 up to 27"
     own=(
         # "v/64"
         ('25>0 26>1 27>2 28>3 50>4 36>5 22>6 73>7 47>24 37>38',
@@ -144,9 +154,8 @@ POD = Kind(
         ('13>9 20>10 14>11 15>12 16>13 21>14 17>15 24>17 32>34 34>36 38>39 '
          '39>40 40>41 41>42 18>43 72>45 1>47',
          lambda v: v // 2, TOP),
-        # "v"; "12>8 up to 27; 71>44 and 19>46 up to 15"
+        # "v"; "71>44 and 19>46 up to 15"
         ('4>18 44>19 45>20 7>22 46>23', lambda v: v, TOP),
-        ('12>8', lambda v: v, 27),
         ('71>44 19>46', lambda v: v, 15),
         # "23>16: (127 - v) x 194 / 256"
         ('23>16', lambda v: (127 - v) * 194 // 256, TOP),
@@ -187,10 +196,11 @@ BASS = Kind(
     identity=bytes.fromhex('02 00 00 00'),  # "identity 02 00 00 00"
     # "a program change of 1 to 36 .. copies program 0 to 35"
     changes=range(1, 37),
-    # "Only these controllers"
+    # "Only these controllers"; "12>3 and 19>49 as received up to 15"
+    amp='12>3',
+    top_model=15,
     own=(
-        # "12>3 and 19>49 as received up to 15"
-        ('12>3 19>49', lambda v: v, 15),
+        ('19>49', lambda v: v, 15),
         # "64>2 by v/64"
         ('64>2', lambda v: v // 64, TOP),
         # "13>4, 14>6, 15>7, 16>8, 17>10, 18>11, 1>50 by v/2"
@@ -200,8 +210,19 @@ BASS = Kind(
     at_least={},
 )
 
-# "A box is set as POD or Bass POD before use."
-KINDS = (POD, BASS)
+# Req 07: "As a third kind"; "All else is as for a POD, including Req 06."
+PRO = replace(
+    POD,
+    number=2,
+    word='pro',
+    identity=bytes.fromhex('00 00 00 04'),  # "identity 00 00 00 04"
+    top_model=31,  # "amp model up to 31"
+    # "controller 9 to byte 35 by v/2 (digital output gain)"
+    own=(*POD.own, ('9>35', lambda v: v // 2, TOP)),
+)
+
+# Req 04: "A box is set as POD or Bass POD before use.", or as a POD Pro
+KINDS = (POD, BASS, PRO)
 BY_NUMBER = {kind.number: kind for kind in KINDS}
 BY_WORD = {kind.word: kind for kind in KINDS}
 EVERY_CONTROLLER = tuple(dict.fromkeys(
@@ -211,6 +232,22 @@ EVERY_CONTROLLER = tuple(dict.fromkeys(
 def others(kind):
     """Return the other kinds."""
     return tuple(other for other in KINDS if other is not kind)
+
+
+def strangers(kind):
+    """Return a kind for each header that is "not ours"."""
+    return tuple({other.header: other for other in KINDS
+                  if other.header != kind.header}.values())
+
+
+def around(numbers, steps=(-1, 0, 1)):
+    """Return numbers and those a few steps off, each once, in order."""
+    return tuple(sorted({number + step
+                         for number in numbers for step in steps}))
+
+
+# Amp models that are just known to a kind, and that just are not.
+AMP_BORDERS = around((kind.top_model for kind in KINDS), (0, 1))
 
 
 def kind_told(words):

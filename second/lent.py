@@ -1,12 +1,12 @@
-"""The script of what is lent, scaled and shown back: 30 to 34 and 40."""
+"""The script of what is lent, scaled, shown back and known: 30 to 34, 40."""
 
-from itertools import product
+from itertools import permutations, product
 
 from box import MARKS, MEMORY, RECEIVE, RECEIVED, REPLY
 from controllers import SELECTOR
 from judging import wrong_settings
-from kinds import (ALL, EDIT, EVERY_CONTROLLER, KINDS, MARK_COUNT, PROGRAMS,
-                   START)
+from kinds import (ALL, AMP_BORDERS, EDIT, EVERY_CONTROLLER, KINDS,
+                   MARK_COUNT, PROGRAMS, START, around)
 from messages import (dump, edit_with, identity, in_each_length, noise,
                       request, wave)
 from player import MARK_ROOM, MEMORY_ROOM, MESSAGE_ROOM, ROOMS
@@ -17,8 +17,7 @@ from switched import (NO_KINDS, add_calls, add_no_kinds, add_other_buffers,
 
 HOLDING = {'running': 0xB0, 'held': 1}
 # Counts of stored bytes around the limit of each kind, and between them.
-COUNTS = (5500, *(kind.most_stored + more
-                  for kind in KINDS for more in (-1, 0, 1)))
+COUNTS = (5500, *around(kind.most_stored for kind in KINDS))
 
 
 def full(kind):
@@ -82,8 +81,9 @@ NO_SOCKETS = (2, 3, 0xFF, 1 << 24, (1 << 24) + 1, 0x80000000, 0xFF0000FF)
 # Controllers that would be in the table if they were cut, and others.
 NO_CONTROLLERS = (0, 6, 120, 127, 128, 256 + 13, 65536 + 13,
                   (13 << 16) + 13, 0x8000000D, 0xFFFFFFFF)
-# Values that would be in range if they were cut, and their borders.
-VALUES = (*range(8), 15, 16, 21, 22, 27, 28, 63, 64, 126, 127, 128, 255, 256,
+# Values, and amp models, that would be in range if they were cut, and their
+# borders.
+VALUES = (*range(8), *AMP_BORDERS, 21, 22, 63, 64, 126, 127, 128, 255, 256,
           65535, 1 << 24, (1 << 24) + 5, (255 << 24) + 127)
 
 
@@ -147,14 +147,14 @@ def add_lengths(script, buffer, lengths):
         script.moves_hex('0D 11')
         script.back(13, 0)
         script.scale(5)
+        script.amp(15)
     script.lend_back(buffer)
 
 
 def lengths_of(buffer):
     """Return lengths around the least that each kind wants of a buffer."""
-    around = (kind.least[buffer] + more
-              for kind in KINDS for more in (-1, 0, 1))
-    return 0, 1, *around, ROOMS[buffer], 65535
+    least = (kind.least[buffer] for kind in KINDS)
+    return 0, 1, *around(least), ROOMS[buffer], 65535
 
 
 def add_long_buffers(script, asked):
@@ -232,7 +232,7 @@ def add_no_sockets(script, numbers):
 
 
 def add_wrong_settings(script):
-    """Settings out of range: every call is 32, but K and D."""
+    """Settings out of range: every call is 32, but K, D and G."""
     for _ in wrong_settings(script, script.whole):
         for socket in (0, 1):
             script.send_hex(socket, 'F8 B0')
@@ -240,6 +240,7 @@ def add_wrong_settings(script):
         script.moves_hex('0D 11')
         script.scale(5)
         script.back(13)
+        script.amp(15)
 
 
 def add_wrong_marks(script, places, marks):
@@ -327,7 +328,7 @@ def add_scale_order(script):
         if no_kind:
             script.bring(NO_KINDS[0])
         script.controller(65536 + 12 if unknown else 12)
-        script.scale(28 if high else 15)
+        script.scale(script.kind.top_model + (1 if high else 0))
         script.bring_back()
 
 
@@ -361,6 +362,7 @@ def add_all(script):
     add_other_buffers(script)
     add_scaling(script, (*EVERY_CONTROLLER, *NO_CONTROLLERS), VALUES)
     add_scale_order(script)
+    script.amp(*VALUES)
     for controller in kind.table:
         add_back(script, controller)
     script.back(*EVERY_CONTROLLER, *NO_CONTROLLERS)
@@ -368,11 +370,11 @@ def add_all(script):
 
 
 def make_lent():
-    """Return the script of what is lent, scaled and shown back."""
+    """Return the script of what is lent, scaled, shown back and known."""
     script = Script()
     add_beyond(script)
     for kind in KINDS:
         script.become(kind)
         add_all(script)
-    add_switched(script)
+    add_switched(script, [*permutations(KINDS, 2)])
     return bytes(script.commands)

@@ -3,7 +3,7 @@
 python3 second/listing.py stream [KIND]  writes the stream
 python3 second/listing.py lines [KIND]   reads a stream and prints its lines
 
-KIND is pod or bass, and pod where it is not said. The stream gives every
+KIND is pod, bass or pro, and pod where it is not said. The stream gives every
 number that a socket of that box can give, with dumps of each length, good and
 damaged, with program changes, and with real-time bytes anywhere.
 """
@@ -13,10 +13,11 @@ from itertools import chain, cycle
 
 from box import END_BYTE, Box
 from controllers import split
-from kinds import ALL, EDIT, PROGRAM, kind_told, others
+from kinds import ALL, AMP_BORDERS, EDIT, PROGRAM, kind_told, strangers
 from messages import (changed, data_start, dump, identity, in_each_length,
                       request)
 from player import rows_of
+from scenes import listed
 from sockets import CHANGES
 
 REAL_TIME = bytes(range(0xF8, 0x100))  # "F8 to FF"
@@ -48,7 +49,7 @@ def dumps(kind):
         yield changed(good, data - 1, 1)       # 15
         yield changed(good, data, 0x7F)        # 16
         yield changed(good, 6, 3)              # 12
-        for other in others(kind):
+        for other in strangers(kind):
             yield changed(good, 4, other.device)  # 11
         yield good[:-2] + END_BYTE             # 13
     yield changed(one, 7, 0x24)                # 14
@@ -56,13 +57,14 @@ def dumps(kind):
 
 
 def moves(kind):
-    """Yield every controller at some values, under each effect."""
+    """Yield every controller under each effect, then amp models."""
     for effect in range(17):
         yield bytes((0xB0, 19, effect))
         for controller in range(128):
             # running status: one status byte for the three moves
             yield bytes((0xB0, controller, 0, controller, 64,
                          controller, 127))
+    yield b'\xB0' + listed((12, model) for model in AMP_BORDERS)
     yield request(kind, EDIT)
 
 

@@ -7,7 +7,7 @@ socket. A box whose dumps have one length neither reads nor writes marks.
 
 from box import NOT_RECEIVED, RECEIVED
 from judging import show
-from kinds import ALL, EDIT, KINDS, PROGRAM, PROGRAMS
+from kinds import ALL, EDIT, KINDS, PROGRAM, PROGRAMS, around
 from messages import (changed, data_start, dump, dumps, long_dumps, noise,
                       request, resized, waves)
 from scenes import EVERY_NUMBER
@@ -16,9 +16,8 @@ from scenes import EVERY_NUMBER
 # and the edit buffer.
 PLACES = (0, 0x10, 0x11, 0x12, 0x23, PROGRAMS)
 # Lengths around the right ones of every kind, going down.
-AROUND = sorted({length + more for kind in KINDS
-                 for length in kind.every_length for more in (-1, 0, 1)},
-                reverse=True)
+AROUND = around(length for kind in KINDS
+                for length in kind.every_length)[::-1]
 
 
 def asking(kind):

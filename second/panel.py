@@ -2,7 +2,7 @@
 
 from box import END_BYTE
 from judging import add_forms, show, wrong_settings
-from kinds import EDIT, END, KINDS, START
+from kinds import EDIT, END, KINDS, START, around
 from marks import add_marks
 from messages import (PAD, all_forms, changed, edit_with, forms, identity,
                       request, resized, wave)
@@ -53,7 +53,7 @@ def add_shortest(script):
 
 def add_longest(script):
     """Messages as long as the longest of each kind, and over."""
-    borders = (kind.longest + more for kind in KINDS for more in range(3))
+    borders = around((kind.longest for kind in KINDS), range(3))
     for length in (*borders, MESSAGE_ROOM):
         framed = bytes((START,)) + wave(length, length - 2) + END_BYTE
         for message in (framed, changed(framed, 9, 0xF8),

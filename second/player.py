@@ -16,12 +16,14 @@ ROOMS = (MEMORY_ROOM, BUFFER_ROOM, BUFFER_ROOM, BUFFER_ROOM, MARK_ROOM)
 REFUSED = 65536      # "the value, or 65,536 + the refusal number"
 VALUE = 'value'      # stands for all values among the numbers given
 MOVE = 'n'           # stands for a call's letter where a move is counted
+# a row for each answer to whether an amp model is known
+KNOWN = {1: 'known', 0: 'not known'}
 # a row for each number that is noted for a move
 MOVED = {number: f'move {number}' for number in (
     APPLIED, UNKNOWN, OUT_OF_RANGE, NOT_SELECTED)}
-# "Numbers the box returns", a row for values, and those of moves
+# "Numbers the box returns", a row for values, those of amp models, of moves
 ROWS = (*range(5), *range(10, 23), *range(30, 35), 40, VALUE,
-        *MOVED.values())
+        *KNOWN.values(), *MOVED.values())
 # "stored + 2^16 x inside + 2^24 x over + 2^32 x running + 2^40 x held + 2^48
 # x waiting"
 PLACES = {'stored': 0, 'inside': 16, 'over': 24, 'running': 32, 'held': 40,
@@ -112,7 +114,8 @@ class Player:
                          'Z': self.lend, 'E': self.set_receiver,
                          'N': self.set_controller, 'T': self.set_kind}
         self.calling = {'W': self.whole, 'S': self.take, 'M': self.feed,
-                        'K': self.scale, 'D': self.back, 'V': self.move}
+                        'K': self.scale, 'D': self.back, 'G': self.amp,
+                        'V': self.move}
 
     def play(self, op, a, b, v):
         """Do one command; return its lines."""
@@ -162,7 +165,7 @@ class Player:
 
     def set_kind(self, a, b, v):
         """Do T: "the kind's number is n + 2^24 x v"."""
-        self.box.kind_number = a + 256 * b + (v << 24)
+        self.box.kind_number = widened(a, b, v)
 
     def whole(self, *_):
         """Do W."""
@@ -180,12 +183,16 @@ class Player:
 
     def scale(self, a, b, v):
         """Do K: "for value n + 2^24 x v"."""
-        value = a + 256 * b + (v << 24)
+        value = widened(a, b, v)
         return self.asked('K', *self.box.scale(self.controller, value))
 
     def back(self, *_):
         """Do D."""
         return self.asked('D', *self.box.back(self.controller))
+
+    def amp(self, a, b, v):
+        """Do G: "whether amp model n + 2^24 x v is known"."""
+        return self.asked('G', *self.box.amp(widened(a, b, v)))
 
     def move(self, *_):
         """Do V: "the moves that the message holds, two bytes each"."""
@@ -227,9 +234,10 @@ class Player:
         return tabbed(letter, at, number, length, *digests, *receivers)
 
     def asked(self, letter, outcome, number):
-        """Return the lines of a K or a D."""
+        """Return the lines of a K, a D or a G."""
         if outcome == VALUE:
-            return (tabbed(letter, self.count(letter, VALUE), number),)
+            row = KNOWN[number] if letter == 'G' else VALUE
+            return (tabbed(letter, self.count(letter, row), number),)
         at = self.count(letter, number)
         return (tabbed(letter, at, REFUSED + number),)
 
@@ -237,6 +245,11 @@ class Player:
         """Return the lines "at the end of the script"."""
         return (tabbed('m', self.box.memory.hex()),
                 tabbed('k', self.box.marks.hex()), tabbed('c', self.calls))
+
+
+def widened(a, b, v):
+    """Return "n + 2^24 x v"."""
+    return a + 256 * b + (v << 24)
 
 
 def as_number(receiver):

@@ -4,12 +4,13 @@ python3 second/replay.py brief      writes the script that is committed
 python3 second/replay.py whole      writes the script of panel messages
 python3 second/replay.py sockets    writes the script of bytes on sockets and
                                     of lists of moves among them
-python3 second/replay.py lent       writes the script of what is lent, scaled
-                                    and shown back
+python3 second/replay.py lent       writes the script of what is lent, scaled,
+                                    shown back and known
 python3 second/replay.py answers    reads a script and prints its lines
 python3 second/replay.py histogram  reads a script and prints, for each number
                                     of the table, how many calls of each kind
-                                    gave it, and the same of lists' moves
+                                    gave it, and the same of amp models and
+                                    of lists' moves
 
 Scripts and lines are in the form of REPLAY.md; the answers are box.py's.
 """
@@ -20,15 +21,15 @@ from brief import make_brief
 from kinds import KINDS
 from lent import make_lent
 from panel import make_whole
-from player import MOVED, ROWS, VALUE, play, rows_of, tabbed, tally
+from player import KNOWN, MOVED, ROWS, VALUE, play, rows_of, tabbed, tally
 from sockets import make_sockets
 
-# Each script, and the rows that it does not show of either kind.
+# Each script, and the rows that it does not show of any kind.
 SCRIPTS = {
     'brief': (make_brief, set()),
     'whole': (make_whole, {0, 3, 4, *range(17, 22), 30, 31, 33, 34, 40,
-                           VALUE, *MOVED.values()}),
-    'sockets': (make_sockets, {*range(30, 35), 40, VALUE}),
+                           VALUE, *KNOWN.values(), *MOVED.values()}),
+    'sockets': (make_sockets, {*range(30, 35), 40, VALUE, *KNOWN.values()}),
     'lent': (make_lent, {4, 12, 14, 15, 16, 22}),
 }
 
@@ -46,12 +47,12 @@ def make(name):
 
 
 def histogram(given):
-    """Return a line for each number, for values, and for moves' numbers.
+    """Return a line for each number, values, amp models, moves' numbers.
 
     The fields are of each kind, and of the numbers that are no kind's.
     """
     counts = tally(given)
-    return [tabbed('number', *(kind.word for kind in KINDS), 'neither'),
+    return [tabbed('number', *(kind.word for kind in KINDS), 'none'),
             *(tabbed(row, *(rows[row] for rows in counts)) for row in ROWS)]
 
 

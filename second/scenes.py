@@ -8,24 +8,24 @@ from itertools import chain, product
 
 from box import MEMORY, RECEIVE, REPLY
 from controllers import SELECTOR
-from kinds import ALL, EDIT, KINDS
+from kinds import ALL, AMP_BORDERS, EDIT, KINDS
 from messages import dump, edit_with, noise, request, wave, waves
 from moves import MOST
 from player import MESSAGE_ROOM
 from switched import mend, spoil
 
 # Controllers that want an effect on some kind of box.
-SHARED = tuple(controller for kind in KINDS
-               for controller, rule in kind.table.items()
-               if rule.chosen_by is not None)
+SHARED = tuple(dict.fromkeys(
+    controller for kind in KINDS for controller, rule in kind.table.items()
+    if rule.chosen_by is not None))
 # How many moves: none, and "up to 256".
 COUNTS = (0, 1, MOST - 1, MOST, MOST + 1)
 # Controllers and values at their borders, and some that would be in range if
 # they were cut.
-CONTROLLERS = (0, 12, 13, 55, 127, 128, 128 + 13, 255)
-VALUES = (0, 15, 16, 27, 28, 127, 128, 128 + 13, 255)
-# On a POD every number that a move can have; on a Bass box all but 19.
-EVERY_NUMBER = '0D 7F 00 00 0C 1C 13 02 37 7F 33 7F 8D 11 0D 80 0E 40'
+CONTROLLERS = (0, 9, 12, 13, 55, 127, 128, 128 + 13, 255)
+VALUES = (0, *AMP_BORDERS, 127, 128, 128 + 13, 255)
+# Every number that a move can have, but 19 on a Bass box.
+EVERY_NUMBER = '0D 7F 09 7F 00 00 0C 1C 13 02 37 7F 33 7F 8D 11 0D 80 0E 40'
 
 
 def listed(pairs):
@@ -171,7 +171,7 @@ def add_list_pieces(script, piece):
 
 def add_scenes(script):
     """What lists do, whatever is lent: all of it."""
-    add_moves(script, (0, 15, 16, 64, 127, 128, 255))
+    add_moves(script, (0, *AMP_BORDERS, 64, 127, 128, 255))
     add_high(script)
     for value in (0, 64, 127):
         add_selected(script, range(16), value)

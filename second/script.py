@@ -23,6 +23,10 @@ class Script:
         """Write one command."""
         self.commands += bytes((ord(op), a, b, v))
 
+    def add_wide(self, op, number):
+        """Write a command with a number n + 2^24 x v."""
+        self.add(op, number % 256, number // 256 % 256, number >> 24)
+
     def edit(self, op, n, v=0):
         """Write L, B or P, and do it."""
         self.add(op, n % 256, n // 256, v)
@@ -88,7 +92,7 @@ class Script:
 
     def bring(self, number):
         """Bring this number n + 2^24 x v as the kind's from now on."""
-        self.add('T', number % 256, number // 256 % 256, number >> 24)
+        self.add_wide('T', number)
 
     def bring_back(self):
         """Bring the number of the kind that the box is."""
@@ -116,13 +120,18 @@ class Script:
     def scale(self, *values):
         """Ask for the controller's number for values n + 2^24 x v."""
         for value in values:
-            self.add('K', value % 256, value // 256 % 256, value >> 24)
+            self.add_wide('K', value)
 
     def back(self, *controllers):
         """Ask what controllers show."""
         for controller in controllers:
             self.controller(controller)
             self.add('D')
+
+    def amp(self, *models):
+        """Ask whether amp models n + 2^24 x v are known."""
+        for model in models:
+            self.add_wide('G', model)
 
     def whole(self, message):
         """Hand a message over whole."""

@@ -5,7 +5,7 @@ from itertools import zip_longest
 
 from box import END_BYTE
 from judging import add_forms, show
-from kinds import ALL, EDIT, KINDS, PROGRAM, START
+from kinds import ALL, AMP_BORDERS, EDIT, KINDS, PROGRAM, START
 from marks import PLACES, add_in_turn, add_one_clear, add_unmoved, asking
 from messages import (PAD, all_forms, changed, dump, dumps, edit_with,
                       identity, inserted, noise, request, resized, wave,
@@ -27,7 +27,7 @@ def add_running(script, socket):
             # "The last one finishes the message; running status stays."
             'B0 0D 7F 0E 40 0F 20',
             # refused messages finish too
-            '00 00 0D 33 0C 1C 0E 34 37 00 0F 35',
+            '00 00 0D 33 0C 20 0E 34 37 00 0F 35',
             # "F8 to FF: ... nothing changes, in the middle of a message too"
             'B0 F8 0D F9 70 FA 0E FB 41 FC FD FE FF 0F 21',
             # "drops a half-received message"
@@ -325,7 +325,7 @@ def add_all(script):
     add_recalled(script)
     add_cut_dumps(script, 0)
     add_too_long(script, 1)
-    add_controllers(script, 0, (0, 1, 15, 16, 27, 28, 63, 64, 127))
+    add_controllers(script, 0, (0, 1, *AMP_BORDERS, 63, 64, 127))
     add_numbers(script, 1)
     add_refusals(script, 0)
     add_mixed(script)

@@ -7,7 +7,7 @@ every answer. The last line is of the half bytes.
 - scaled: values 0 to 255.
 - applied: byte 46 at 0 to 255, values 0 to 128, a buffer of its own for each;
   the digest takes the answer and the weight of the whole buffer after it.
-  The buffer has room for either kind's edit buffer.
+  The buffer has room for any kind's edit buffer.
 - shown: byte 46 at 0 to 255; then every number that the controller's field
   can hold, with byte 46 at the first setting that selects its effect.
 """

@@ -4,7 +4,7 @@ python3 second/why.py line [KIND]       reads a message and prints its line
 python3 second/why.py cases DIR [KIND]  writes cases: NNNN.in has a message,
                                         NNNN.out its line
 
-KIND is pod or bass, and pod where it is not said.
+KIND is pod, bass or pro, and pod where it is not said.
 
 Req 02: "The reason must be true: that check fails on these bytes, every
 earlier one holds, and a fresh box set as the listing program's, handed the
@@ -196,7 +196,9 @@ def read_table(kind):
     _, section = text.split('\n## The reason for a number')
     section, *_ = section.split('\n## ')
     heads, *rows = re.findall(r'^\| (.*) \|$', section, re.MULTILINE)
-    column = heads.split(' | ').index(f'third field, `{kind.word}`')
+    # a head names each kind whose column it is
+    column = next(at for at, head in enumerate(heads.split(' | '))
+                  if f'`{kind.word}`' in head)
     for row in rows:
         number, second, *_ = cells = row.split(' | ')
         # what does not follow the kind stands under the first
