@@ -1,21 +1,28 @@
-/* Whether the plain side is the same box: every value scaled, bytes of the edit buffer shown back, then random calls to
- * both, lists of moves of every length among them, compared in every bit that is left. Both kinds, and numbers that are
- * none. */
+/* Whether the plain side is the same box: every value scaled, bytes of the edit buffer shown back, amp models, then
+ * random calls to both, lists of moves of every length among them, compared in every bit that is left. Every kind, and
+ * numbers that are none. */
 #include "side.h"
 
 /* Lists have 0 to 257 moves, one more than is taken: so many lengths. */
-enum { KINDS = 2, NO_KINDS = 4, LENGTHS = COSTERBLOOM_MOST_MOVES + 2 };
+enum { KINDS = 3, NO_KINDS = 4, LENGTHS = COSTERBLOOM_MOST_MOVES + 2 };
 
 /* One past the kinds, some that are a kind if they are cut, and the highest. */
-static const uint32_t NO_KIND[NO_KINDS] = {2, 256, 65537, 0xFFFFFFFF};
+static const uint32_t NO_KIND[NO_KINDS] = {3, 256, 65537, 0xFFFFFFFF};
 
 /* What the random calls must know of each kind. */
 static const struct {
     size_t program, memory, longest;
+    uint8_t device;
 } KIND[KINDS] = {
-    {COSTERBLOOM_POD_PROGRAM, COSTERBLOOM_POD_MEMORY, COSTERBLOOM_POD_LONGEST},
-    {COSTERBLOOM_BASS_POD_PROGRAM, COSTERBLOOM_BASS_POD_MEMORY, COSTERBLOOM_BASS_POD_LONGEST},
+    {COSTERBLOOM_POD_PROGRAM, COSTERBLOOM_POD_MEMORY, COSTERBLOOM_POD_LONGEST, 1},
+    {COSTERBLOOM_BASS_POD_PROGRAM, COSTERBLOOM_BASS_POD_MEMORY, COSTERBLOOM_BASS_POD_LONGEST, 2},
+    {COSTERBLOOM_POD_PRO_PROGRAM, COSTERBLOOM_POD_PRO_MEMORY, COSTERBLOOM_POD_PRO_LONGEST, 1},
 };
+
+static uint32_t another_kind(uint32_t kind, uint64_t *seed)
+{
+    return (kind + 1 + below(seed, KINDS - 1)) % KINDS;
+}
 
 /* The arguments of a call. The mark at a place has other bits for it, which make it none; where they are 0 it stays. */
 typedef struct {
@@ -137,44 +144,60 @@ static int shows_same(const uint8_t *memory, uint32_t kind, uint32_t first, uint
     return 1;
 }
 
-/* A POD: each effect's fields at every number up to the highest that a formula gives. A field of two bytes begins at an
- * even place or at an odd one; each number stands at both, one after the other. */
-static int fields_same(void)
+/* A POD or a POD Pro: each effect's fields at every number up to the highest that a formula gives. A field of two bytes
+ * begins at an even place or at an odd one; each number stands at both, one after the other. */
+static int fields_same(uint32_t kind)
 {
-    enum { HIGHEST = 6350, EDIT = COSTERBLOOM_POD_MEMORY - COSTERBLOOM_POD_PROGRAM };
+    enum { HIGHEST = 6350 };
     static const uint8_t SELECTING[] = {14, 7, 0, 2, 5};
-    static uint8_t memory[COSTERBLOOM_POD_MEMORY];
+    static uint8_t memory[COSTERBLOOM_MEMORY];
+    uint8_t *edit = memory + KIND[kind].memory - KIND[kind].program;
     for (size_t effect = 0; effect < sizeof SELECTING; effect++) {
-        memory[EDIT + 46] = SELECTING[effect];
+        edit[46] = SELECTING[effect];
         for (uint32_t turn = 0; turn <= 2 * HIGHEST + 1; turn++) {
             for (uint32_t place = 48; place <= 54; place++)
-                memory[EDIT + place] = (uint8_t)(place % 2 == turn % 2 ? turn / 2 : turn / 2 / 256);
-            if (!shows_same(memory, COSTERBLOOM_POD, 42, 59))
+                edit[place] = (uint8_t)(place % 2 == turn % 2 ? turn / 2 : turn / 2 / 256);
+            if (!shows_same(memory, kind, 42, 59))
                 return 0;
         }
     }
     return 1;
 }
 
-/* A Bass POD, whose controllers have a byte each: every number in all of them. */
-static int numbers_same(void)
+/* Every number in each byte of the edit buffer, another one beside it. */
+static int numbers_same(uint32_t kind)
 {
-    static uint8_t memory[COSTERBLOOM_BASS_POD_MEMORY];
+    static uint8_t memory[COSTERBLOOM_MEMORY];
+    uint8_t *edit = memory + KIND[kind].memory - KIND[kind].program;
     for (uint32_t number = 0; number < 256; number++) {
-        for (size_t place = 0; place < COSTERBLOOM_BASS_POD_PROGRAM; place++)
-            memory[sizeof memory - 1 - place] = (uint8_t)number;
-        if (!shows_same(memory, COSTERBLOOM_BASS_POD, 0, 140))
+        for (size_t place = 0; place < KIND[kind].program; place++)
+            edit[place] = (uint8_t)(number + place);
+        if (!shows_same(memory, kind, 0, 140))
             return 0;
     }
+    return 1;
+}
+
+/* Every byte as an amp model, and numbers that are the same byte if they are cut. */
+static int amps_same(uint32_t kind)
+{
+    static const uint32_t ABOVE[] = {0, 256, 65536, 0x80000000, 0xFFFFFF00};
+    for (size_t i = 0; i < sizeof ABOVE / sizeof *ABOVE; i++)
+        for (uint32_t byte = 0; byte < 256; byte++)
+            if (costerbloom_amp(ABOVE[i] + byte, kind) != plain_amp(ABOVE[i] + byte, kind))
+                return 0;
     return 1;
 }
 
 int panel_agrees(void)
 {
     for (size_t i = 0; i < NO_KINDS; i++)
-        if (!scales_same(NO_KIND[i]))
+        if (!scales_same(NO_KIND[i]) || !amps_same(NO_KIND[i]))
             return 0;
-    return scales_same(COSTERBLOOM_POD) && scales_same(COSTERBLOOM_BASS_POD) && fields_same() && numbers_same();
+    for (uint32_t kind = 0; kind < KINDS; kind++)
+        if (!scales_same(kind) || !amps_same(kind) || !numbers_same(kind))
+            return 0;
+    return fields_same(COSTERBLOOM_POD) && fields_same(COSTERBLOOM_POD_PRO);
 }
 
 static int panel_same(const box *a, const box *b, const given *g, uint64_t *seed)
@@ -192,10 +215,10 @@ static size_t put(uint8_t *message, const uint8_t *bytes, size_t count)
 }
 
 /* A request or a dump of any form, often with one thing wrong. Every second dump has a byte less of each program: on a
- * POD it is a short one. */
+ * POD or a POD Pro it is a short one. */
 static size_t any_sysex(uint8_t *message, uint32_t kind, uint64_t *seed)
 {
-    const uint8_t header[] = {0xF0, 0x00, 0x01, 0x0C, (uint8_t)(1 + kind)};
+    const uint8_t header[] = {0xF0, 0x00, 0x01, 0x0C, KIND[kind].device};
     uint32_t opcode = below(seed, 9) / 4, type = below(seed, 10) / 3, wrong = below(seed, 7);
     size_t length = put(message, header, sizeof header);
     message[length++] = (uint8_t)opcode;
@@ -217,11 +240,11 @@ static size_t any_sysex(uint8_t *message, uint32_t kind, uint64_t *seed)
     return length;
 }
 
-/* Of the other kind now and then, and now and then with the other kind's device byte alone. */
+/* Of another kind now and then, and now and then with the other device byte alone. */
 static size_t any_kind_of_sysex(uint8_t *message, uint32_t kind, uint64_t *seed)
 {
     uint32_t other = below(seed, 12);
-    size_t length = any_sysex(message, other == 0 ? 1 - kind : kind, seed);
+    size_t length = any_sysex(message, other == 0 ? another_kind(kind, seed) : kind, seed);
     if (other == 1)
         message[4] ^= 3;
     return length;
@@ -305,7 +328,7 @@ static int bytes_same(box *a, box *b, const uint8_t *message, size_t length, uin
     size_t other_from = below(seed, 16) ? length : below(seed, (uint32_t)length);
     for (size_t i = 0; i < length; i++) {
         if (i == other_from)
-            kind = 1 - kind;
+            kind = another_kind(kind, seed);
         given amiss = any_amiss(kind, seed), g = any_given(kind, seed);
         if (below(seed, 50) == 0 && !take_same(a, b, message[i], &amiss))
             return 0;

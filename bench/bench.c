@@ -26,7 +26,7 @@ static const uint8_t REQUEST[] = {0xF0, 0, 1, 0x0C, 1, 0, 2, 0xF7}, BASS_REQUEST
 
 #define ONCE static inline __attribute__((always_inline)) uint64_t
 
-/* The largest buffers are lent, as a box does that may be set as either kind. */
+/* The largest buffers are lent, as a box does that may be set as any kind. */
 ONCE taken(take_call *take, uint32_t kind, box *b, uint8_t byte)
 {
     return take(&b->receiver, 0, byte, kind, 0, 0, 0x30, 0x31, 0x30, 0x30, b->memory, sizeof b->memory, b->marks,
@@ -81,6 +81,11 @@ ONCE bass_reply_out(take_call *take, box *b)
 ONCE mixed_moves(take_call *take, box *b)
 {
     return fed(take, COSTERBLOOM_POD, b, moves, sizeof moves);
+}
+
+ONCE pro_mixed_moves(take_call *take, box *b)
+{
+    return fed(take, COSTERBLOOM_POD_PRO, b, moves, sizeof moves);
 }
 
 ONCE one_knob(take_call *take, box *b)
@@ -171,6 +176,7 @@ SIDES(shown_back, back)
 SIDES(shown_of_sheet, back)
 SIDES(bass_dump_in, take)
 SIDES(bass_reply_out, take)
+SIDES(pro_mixed_moves, take)
 
 /* ---- what is fed */
 
@@ -251,6 +257,7 @@ static const work WORKS[] = {
     {"one call: the same, of the sheet", "call", SHOWN, with_none, shown_of_sheet_library, shown_of_sheet_plain},
     {"Bass POD: a long dump in", "byte", sizeof bass_dump, fresh, bass_dump_in_library, bass_dump_in_plain},
     {"Bass POD: a long reply out", "request", REQUESTS, fresh, bass_reply_out_library, bass_reply_out_plain},
+    {"POD Pro: controllers, mixed", "byte", sizeof moves, fresh, pro_mixed_moves_library, pro_mixed_moves_plain},
 };
 
 /* ---- the method */
@@ -328,7 +335,7 @@ int main(int words, char **unused)
     make_dump(bass_dump, sizeof bass_dump, BASS_REQUEST);
     make_moves();
     if (!panel_agrees()) {
-        printf("a value is scaled or shown back otherwise by the plain side\n");
+        printf("a value is scaled or shown back, or an amp model known, otherwise by the plain side\n");
         return 1;
     }
     uint32_t agreed = agree(&boxes[0], &boxes[1], AGREED);

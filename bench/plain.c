@@ -96,7 +96,8 @@ typedef struct {
     uint8_t place, width, highest, effects, least;
 } row;
 
-enum { ALWAYS = 1, SWELL = 2, COMPRESSOR = 4, CHORUS = 8, ROTARY = 16, TREMOLO = 32, UPPER = 30, LOWER = 62 };
+enum { ALWAYS = 1, SWELL = 2, COMPRESSOR = 4, CHORUS = 8, ROTARY = 16, TREMOLO = 32 };
+enum { AMP = 12, UPPER = 30, LOWER = 62 };
 
 #define V_64(b)                                                                                                        \
     {                                                                                                                  \
@@ -115,60 +116,34 @@ enum { ALWAYS = 1, SWELL = 2, COMPRESSOR = 4, CHORUS = 8, ROTARY = 16, TREMOLO =
         0, 0, 26, 3, 127, ALWAYS, 0                                                                                    \
     }
 
-static const row POD_ROWS[128] = {
-    [25] = V_64(0),
-    [26] = V_64(1),
-    [27] = V_64(2),
-    [28] = V_64(3),
-    [50] = V_64(4),
-    [36] = V_64(5),
-    [22] = V_64(6),
-    [73] = V_64(7),
-    [47] = V_64(24),
-    [37] = V_64(38),
-    [13] = V_2(9),
-    [20] = V_2(10),
-    [14] = V_2(11),
-    [15] = V_2(12),
-    [16] = V_2(13),
-    [21] = V_2(14),
-    [17] = V_2(15),
-    [24] = V_2(17),
-    [32] = V_2(34),
-    [34] = V_2(36),
-    [38] = V_2(39),
-    [39] = V_2(40),
-    [40] = V_2(41),
-    [41] = V_2(42),
-    [18] = V_2(43),
-    [72] = V_2(45),
-    [1] = V_2(47),
-    [4] = V(18, 127),
-    [44] = V(19, 127),
-    [45] = V(20, 127),
-    [7] = V(22, 127),
-    [46] = V(23, 127),
-    [12] = V(8, 27),
-    [71] = V(44, 15),
-    [19] = V(46, 15),
-    [23] = {-194 * 256, 127 * 194 * 256, 16, 1, 127, ALWAYS, 0},
-    [UPPER] = M,
-    [LOWER] = M,
-    [49] = {32768, 0, 48, 1, 127, SWELL, 0},
-    [42] = {2979, 0, 48, 1, 127, COMPRESSOR, 0},
-    [51] = {50 * 65536, 0, 48, 2, 127, CHORUS, 200},
-    [52] = {161320, 0, 50, 2, 127, CHORUS, 0},
-    [53] = {65536, 0, 52, 1, 127, CHORUS, 0},
-    [54] = {399458, 0, 53, 2, 127, CHORUS, 1},
-    [55] = {1024, 0, 48, 1, 127, ROTARY, 0},
-    [56] = {22 * 65536, 100 * 65536, 49, 2, 127, ROTARY, 0},
-    [57] = {22 * 65536, 100 * 65536, 51, 2, 127, ROTARY, 0},
-    [58] = {25 * 65536, 0, 48, 2, 127, TREMOLO, 150},
-    [59] = {65536, 0, 50, 1, 127, TREMOLO, 0},
-};
+/* The rows that a POD and a POD Pro have alike: all but that of 12, the amp model, and a POD Pro's of 9. */
+#define ROWS_ALIKE                                                                                                     \
+    [25] = V_64(0), [26] = V_64(1), [27] = V_64(2), [28] = V_64(3), [50] = V_64(4), [36] = V_64(5), [22] = V_64(6),    \
+    [73] = V_64(7), [47] = V_64(24), [37] = V_64(38),                                                                  \
+    [13] = V_2(9), [20] = V_2(10), [14] = V_2(11), [15] = V_2(12), [16] = V_2(13), [21] = V_2(14), [17] = V_2(15),     \
+    [24] = V_2(17), [32] = V_2(34), [34] = V_2(36), [38] = V_2(39), [39] = V_2(40), [40] = V_2(41), [41] = V_2(42),    \
+    [18] = V_2(43), [72] = V_2(45), [1] = V_2(47),                                                                     \
+    [4] = V(18, 127), [44] = V(19, 127), [45] = V(20, 127), [7] = V(22, 127), [46] = V(23, 127),                       \
+    [71] = V(44, 15), [19] = V(46, 15),                                                                                \
+    [23] = {-194 * 256, 127 * 194 * 256, 16, 1, 127, ALWAYS, 0},                                                       \
+    [UPPER] = M, [LOWER] = M,                                                                                          \
+    [49] = {32768, 0, 48, 1, 127, SWELL, 0},                                                                           \
+    [42] = {2979, 0, 48, 1, 127, COMPRESSOR, 0},                                                                       \
+    [51] = {50 * 65536, 0, 48, 2, 127, CHORUS, 200},                                                                   \
+    [52] = {161320, 0, 50, 2, 127, CHORUS, 0},                                                                         \
+    [53] = {65536, 0, 52, 1, 127, CHORUS, 0},                                                                          \
+    [54] = {399458, 0, 53, 2, 127, CHORUS, 1},                                                                         \
+    [55] = {1024, 0, 48, 1, 127, ROTARY, 0},                                                                           \
+    [56] = {22 * 65536, 100 * 65536, 49, 2, 127, ROTARY, 0},                                                           \
+    [57] = {22 * 65536, 100 * 65536, 51, 2, 127, ROTARY, 0},                                                           \
+    [58] = {25 * 65536, 0, 48, 2, 127, TREMOLO, 150},                                                                  \
+    [59] = {65536, 0, 50, 1, 127, TREMOLO, 0}
+
+static const row POD_ROWS[128] = {ROWS_ALIKE, [AMP] = V(8, 27)};
+static const row POD_PRO_ROWS[128] = {ROWS_ALIKE, [AMP] = V(8, 31), [9] = V_2(35)};
 
 static const row BASS_POD_ROWS[128] = {
-    [12] = V(3, 15),
+    [AMP] = V(3, 15),
     [19] = V(49, 15),
     [64] = V_64(2),
     [13] = V_2(4),
@@ -192,6 +167,8 @@ typedef struct {
 #define IN_KIND static inline __attribute__((always_inline))
 
 static const unit POD = {COSTERBLOOM_POD_PROGRAM, 1, {0xF0, 0x00, 0x01, 0x0C, 0x01}, {0, 0, 0, 1}, POD_ROWS, 0};
+static const unit POD_PRO = {
+    COSTERBLOOM_POD_PRO_PROGRAM, 1, {0xF0, 0x00, 0x01, 0x0C, 0x01}, {0, 0, 0, 4}, POD_PRO_ROWS, 0};
 static const unit BASS_POD = {
     COSTERBLOOM_BASS_POD_PROGRAM, 0, {0xF0, 0x00, 0x01, 0x0C, 0x02}, {2, 0, 0, 0}, BASS_POD_ROWS, 1};
 
@@ -301,6 +278,7 @@ uint64_t plain_moves(const costerbloom_move *moves, size_t count, uint32_t kind,
     switch (kind) {
         case COSTERBLOOM_POD: return apply_all(&POD, moves, count, valid, memory, memory_length, numbers);
         case COSTERBLOOM_BASS_POD: return apply_all(&BASS_POD, moves, count, valid, memory, memory_length, numbers);
+        case COSTERBLOOM_POD_PRO: return apply_all(&POD_PRO, moves, count, valid, memory, memory_length, numbers);
         default: return NOT_SOUND;
     }
 }
@@ -319,6 +297,7 @@ uint32_t plain_scale(uint32_t controller, uint32_t value, uint32_t kind)
     switch (kind) {
         case COSTERBLOOM_POD: return scale(&POD, controller, value);
         case COSTERBLOOM_BASS_POD: return scale(&BASS_POD, controller, value);
+        case COSTERBLOOM_POD_PRO: return scale(&POD_PRO, controller, value);
         default: return REFUSAL + NOT_SOUND;
     }
 }
@@ -365,6 +344,23 @@ uint32_t plain_back(uint32_t controller, uint32_t kind, const uint8_t *memory, s
     switch (kind) {
         case COSTERBLOOM_POD: return back(&POD, controller, memory, memory_length);
         case COSTERBLOOM_BASS_POD: return back(&BASS_POD, controller, memory, memory_length);
+        case COSTERBLOOM_POD_PRO: return back(&POD_PRO, controller, memory, memory_length);
+        default: return REFUSAL + NOT_SOUND;
+    }
+}
+
+/* The amp models that a kind knows are those that its controller 12 takes. */
+IN_KIND uint32_t knows(const unit *u, uint32_t model)
+{
+    return model <= u->rows[AMP].highest;
+}
+
+uint32_t plain_amp(uint32_t model, uint32_t kind)
+{
+    switch (kind) {
+        case COSTERBLOOM_POD: return knows(&POD, model);
+        case COSTERBLOOM_BASS_POD: return knows(&BASS_POD, model);
+        case COSTERBLOOM_POD_PRO: return knows(&POD_PRO, model);
         default: return REFUSAL + NOT_SOUND;
     }
 }
@@ -612,6 +608,7 @@ uint64_t plain_take(costerbloom_receiver *receiver, uint32_t socket, uint8_t byt
     switch (kind) {
         case COSTERBLOOM_POD: return take(&POD, receiver, socket, &c);
         case COSTERBLOOM_BASS_POD: return take(&BASS_POD, receiver, socket, &c);
+        case COSTERBLOOM_POD_PRO: return take(&POD_PRO, receiver, socket, &c);
         default: return NOT_SOUND;
     }
 }
@@ -625,10 +622,11 @@ uint64_t plain_whole(const uint8_t *message, size_t message_length, uint32_t kin
     uint8_t revision0, uint8_t revision1, uint8_t revision2, uint8_t revision3, uint8_t *memory, size_t memory_length,
     uint8_t *marks, size_t marks_length, uint8_t *reply, size_t reply_length)
 {
+    static const unit *const UNITS[] = {&POD, &BASS_POD, &POD_PRO};
     const settings s = {channel, omni, {revision0, revision1, revision2, revision3}};
-    if (kind > COSTERBLOOM_BASS_POD)
+    if (kind > COSTERBLOOM_POD_PRO)
         return NOT_SOUND;
-    const unit *u = kind == COSTERBLOOM_POD ? &POD : &BASS_POD;
+    const unit *u = UNITS[kind];
     if (is_short(u, memory_length, marks_length, reply_length, reply_length))
         return TOO_SHORT;
     if (!are_valid(channel, omni, revision0 | revision1 | revision2 | revision3) || !are_marks(marks))

@@ -1,5 +1,5 @@
-/* The box of document 01 with Reqs 01 and 04 to 06 in plain C, written for speed: the rival that bench/ measures the
- * library against. The same five functions, the same promise, as include/costerbloom.h says it. */
+/* The box of document 01 with Reqs 01 and 04 to 07 in plain C, written for speed: the rival that bench/ measures the
+ * library against. The same six functions, the same promise, as include/costerbloom.h says it. */
 #ifndef PLAIN_H
 #define PLAIN_H
 
@@ -21,5 +21,7 @@ uint64_t plain_moves(const costerbloom_move *moves, size_t count, uint32_t kind,
 uint32_t plain_scale(uint32_t controller, uint32_t value, uint32_t kind);
 
 uint32_t plain_back(uint32_t controller, uint32_t kind, const uint8_t *memory, size_t memory_length);
+
+uint32_t plain_amp(uint32_t model, uint32_t kind);
 
 #endif

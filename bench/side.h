@@ -12,7 +12,7 @@ typedef uint64_t moves_call(const costerbloom_move *, size_t, uint32_t, uint8_t,
     uint8_t, uint8_t *, size_t, uint8_t *, size_t);
 typedef uint32_t back_call(uint32_t, uint32_t, const uint8_t *, size_t);
 
-/* Of either kind, and some room behind the marks. Each buffer begins on a cache line of its own on both sides, so that
+/* Of any kind, and some room behind the marks. Each buffer begins on a cache line of its own on both sides, so that
  * neither is luckier. */
 typedef struct {
     _Alignas(64) costerbloom_receiver receiver;
@@ -50,7 +50,8 @@ static inline int same_box(const box *a, const box *b)
            same(a->reply, b->reply, sizeof a->reply);
 }
 
-/* Whether both sides scale every value alike, and show a POD's shared fields and a Bass POD's bytes back alike. */
+/* Whether both sides scale every value alike, know the same amp models, and show shared fields and single bytes back
+ * alike. */
 int panel_agrees(void);
 
 /* Calls both sides with the same random calls, refused ones too, and compares all that is left. Returns how many calls

@@ -28,6 +28,7 @@ static const struct unit {
 } units[] = {
     {"pod", COSTERBLOOM_POD, COSTERBLOOM_POD_MEMORY},
     {"bass", COSTERBLOOM_BASS_POD, COSTERBLOOM_BASS_POD_MEMORY},
+    {"pro", COSTERBLOOM_POD_PRO, COSTERBLOOM_POD_PRO_MEMORY},
 };
 
 struct wire {
@@ -43,7 +44,7 @@ struct socket {
     size_t reply_length, sent; /* sent < reply_length: a reply is on its way */
 };
 
-/* All zero at the start: fresh memory, fresh receivers; as long as either kind needs them. Fresh marks are 1, and are
+/* All zero at the start: fresh memory, fresh receivers; as long as any kind needs them. Fresh marks are 1, and are
  * set in `load`. */
 static uint8_t memory[COSTERBLOOM_MEMORY];
 static uint8_t marks[COSTERBLOOM_MARKS];
@@ -229,11 +230,12 @@ int main(int count, char **words)
 {
     if (count != 7 || !set_as(words[1])) {
         say("usage: box KIND PROGRAMS INPUT0 INPUT1 OUTPUT0 OUTPUT1\n"
-            "KIND is the word pod or bass. Bytes that come on sockets 0 and 1 are read from INPUT0 and INPUT1,\n"
+            "KIND is the word pod, bass or pro. Bytes that come on sockets 0 and 1 are read from INPUT0 and INPUT1,\n"
             "replies are written to OUTPUT0 and OUTPUT1. The file PROGRAMS keeps the programs, the edit buffer and\n"
-            "the marks, 2701 bytes of a pod, 2997 of a bass, from one run to the next: it is read at the start, also\n"
-            "one of an earlier version, without marks, and replaced where something was stored: as soon as no byte\n"
-            "waits, at most once a second, and when both inputs have ended, or at SIGINT or SIGTERM.\n");
+            "the marks, 2701 bytes of a pod or a pro, 2997 of a bass, from one run to the next: it is read at the\n"
+            "start, also one of an earlier version, without marks, and replaced where something was stored: as soon\n"
+            "as no byte waits, at most once a second, and when both inputs have ended, or at SIGINT or SIGTERM. A\n"
+            "pod reads a pro's file, and a pro a pod's.\n");
         return MISUSED;
     }
     const char *programs = words[2];

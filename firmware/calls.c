@@ -1,5 +1,5 @@
-/* The five calls: the library reads each argument at the place where the header puts it, and gives back what the header
- * says, for both kinds. No compiler holds the two against each other. Says nothing where all is well. */
+/* The six calls: the library reads each argument at the place where the header puts it, and gives back what the header
+ * says, for every kind. No compiler holds the two against each other. Says nothing where all is well. */
 #include <costerbloom.h>
 
 #include "filled.h"
@@ -17,24 +17,29 @@ static const uint8_t request[] = {0xF0, 0x7E, 5, 6, 1, 0xF7};
 /* A kind as the documents have it. */
 static const struct kind {
     uint32_t number;
-    size_t program, memory, longest;
-    uint8_t identity[17], device, drive; /* drive: the byte of controller 13, by v/2 on either */
+    size_t program, spare, memory, longest; /* spare: how many bytes of a program a short dump lacks */
+    uint8_t identity[17], device;
+    uint8_t drive, amp, last_model; /* the bytes of controllers 13, by v/2 on each, and 12, and the latter's highest */
 } kinds[] = {
-    {0, 72, 2664, 5193, {0xF0, 0x7E, 5, 6, 2, 0, 1, 0x0C, 0, 0, 0, 1, 1, 2, 3, 4, 0xF7}, 1, 9},
-    {1, 80, 2960, 5769, {0xF0, 0x7E, 5, 6, 2, 0, 1, 0x0C, 2, 0, 0, 0, 1, 2, 3, 4, 0xF7}, 2, 4},
+    {0, 72, 1, 2664, 5193, {0xF0, 0x7E, 5, 6, 2, 0, 1, 0x0C, 0, 0, 0, 1, 1, 2, 3, 4, 0xF7}, 1, 9, 8, 27},
+    {1, 80, 0, 2960, 5769, {0xF0, 0x7E, 5, 6, 2, 0, 1, 0x0C, 2, 0, 0, 0, 1, 2, 3, 4, 0xF7}, 2, 4, 3, 15},
+    {2, 72, 1, 2664, 5193, {0xF0, 0x7E, 5, 6, 2, 0, 1, 0x0C, 0, 0, 0, 4, 1, 2, 3, 4, 0xF7}, 1, 9, 8, 31},
 };
-static const struct kind *const pod = &kinds[0], *const bass = &kinds[1], *const kinds_end = kinds + 2;
+static const struct kind *const pod = &kinds[0], *const bass = &kinds[1], *const pro = &kinds[2];
+static const struct kind *const kinds_end = kinds + 3;
 
-_Static_assert(COSTERBLOOM_POD == 0 && COSTERBLOOM_BASS_POD == 1, "kinds");
+_Static_assert(COSTERBLOOM_POD == 0 && COSTERBLOOM_BASS_POD == 1 && COSTERBLOOM_POD_PRO == 2, "kinds");
 _Static_assert(COSTERBLOOM_POD_PROGRAM == 72 && COSTERBLOOM_BASS_POD_PROGRAM == 80, "a program");
 _Static_assert(COSTERBLOOM_POD_MEMORY == 2664 && COSTERBLOOM_BASS_POD_MEMORY == 2960, "memory");
 _Static_assert(COSTERBLOOM_POD_LONGEST == 5193 && COSTERBLOOM_BASS_POD_LONGEST == 5769, "the longest message");
+_Static_assert(COSTERBLOOM_POD_PRO_PROGRAM == 72, "a POD Pro's program");
+_Static_assert(COSTERBLOOM_POD_PRO_MEMORY == 2664 && COSTERBLOOM_POD_PRO_LONGEST == 5193, "a POD Pro's lengths");
 _Static_assert(COSTERBLOOM_MEMORY == 2960 && COSTERBLOOM_LONGEST == 5769, "the largest");
 _Static_assert(COSTERBLOOM_MARKS == 37, "the marks");
 _Static_assert(COSTERBLOOM_MOST_MOVES == 256, "the longest list");
 
 /* One past the kinds, two that are a kind if they are cut to 8 or 16 bits, and the highest. */
-static const uint32_t no_kinds[] = {2, 256, 65537, 0xFFFFFFFF};
+static const uint32_t no_kinds[] = {3, 256, 65537, 0xFFFFFFFF};
 
 /* The arguments of a call beside the kind, one of them amiss in each row but the first, and the answers of the three
  * calls that have settings. So many marks are lent; of each other buffer so many bytes are lacking: for a list, `reply`
@@ -90,7 +95,7 @@ static const struct marked {
     {"0xFF behind the marks, lent", 40, 39, 0xFF, 0, 1, IDENTIFIED, IDENTIFIED},
     {"30 before 31 and 32 of a mark", 36, 0, 2, 0, 2, SHORT, SHORT},
     {"31 before 32 of a mark", 37, 36, 2, 0, 2, NO_SOCKET, NOT_SOUND},
-    {"32 of the kind before 30 of marks", 36, 0, 1, 2, 1, NOT_SOUND, NOT_SOUND},
+    {"32 of the kind before 30 of marks", 36, 0, 1, 3, 1, NOT_SOUND, NOT_SOUND},
 };
 
 /* What a dump or a request names: its type, and of type 0 its program; that is so many programs from one on, where the
@@ -103,9 +108,10 @@ static const struct named *const last_program = &names[2], *const edit_buffer = 
 static const struct named *const all_programs = &names[4], *const names_end = names + 5;
 
 /* A scene for each kind: its moves, the number of each, and what an edit buffer that was zero holds then. A POD's byte
- * 46 is 0 at first, which selects 51, and a move of 19 makes it 2, which selects 55 and 56; 62 keeps what 30 stored. On
- * either kind refused moves stand between those that are applied, and both fields have numbers above 127. */
-enum { SCENE = 12 };
+ * 46, and a POD Pro's, is 0 at first, which selects 51, and a move of 19 makes it 2, which selects 55 and 56; 62 keeps
+ * what 30 stored. On every kind refused moves stand between those that are applied, and both fields have numbers above
+ * 127. */
+enum { SCENE = 13 };
 
 static const struct scene {
     struct {
@@ -116,12 +122,19 @@ static const struct scene {
 } scenes[] = {
     {{{{55, 127}, NOT_SELECTED}, {{19, 2}, APPLIED}, {{55, 127}, APPLIED}, {{51, 127}, NOT_SELECTED},
          {{56, 127}, APPLIED}, {{141, 5}, NOT_IN_TABLE}, {{255, 255}, NOT_IN_TABLE}, {{13, 128}, OUT_OF_RANGE},
-         {{51, 128}, OUT_OF_RANGE}, {{30, 64}, APPLIED}, {{62, 1}, APPLIED}, {{13, 127}, APPLIED}},
+         {{51, 128}, OUT_OF_RANGE}, {{30, 64}, APPLIED}, {{62, 1}, APPLIED}, {{9, 127}, NOT_IN_TABLE},
+         {{13, 127}, APPLIED}},
         {[46] = 2, [48] = 1, [49] = 0x4E, [50] = 0x0B, [26] = 0x06, [27] = 0xC0, [9] = 63}},
     {{{{13, 127}, APPLIED}, {{12, 16}, OUT_OF_RANGE}, {{12, 15}, APPLIED}, {{55, 127}, NOT_IN_TABLE},
          {{19, 2}, APPLIED}, {{55, 127}, NOT_IN_TABLE}, {{141, 5}, NOT_IN_TABLE}, {{255, 255}, NOT_IN_TABLE},
-         {{13, 128}, OUT_OF_RANGE}, {{30, 64}, NOT_IN_TABLE}, {{64, 127}, APPLIED}, {{1, 127}, APPLIED}},
+         {{13, 128}, OUT_OF_RANGE}, {{30, 64}, NOT_IN_TABLE}, {{64, 127}, APPLIED}, {{9, 127}, NOT_IN_TABLE},
+         {{1, 127}, APPLIED}},
         {[4] = 63, [3] = 15, [49] = 2, [2] = 1, [50] = 63}},
+    {{{{9, 127}, APPLIED}, {{12, 32}, OUT_OF_RANGE}, {{12, 31}, APPLIED}, {{9, 128}, OUT_OF_RANGE},
+         {{55, 127}, NOT_SELECTED}, {{19, 2}, APPLIED}, {{55, 127}, APPLIED}, {{51, 127}, NOT_SELECTED},
+         {{137, 5}, NOT_IN_TABLE}, {{255, 255}, NOT_IN_TABLE}, {{30, 64}, APPLIED}, {{62, 1}, APPLIED},
+         {{13, 127}, APPLIED}},
+        {[35] = 63, [8] = 31, [46] = 2, [48] = 1, [26] = 0x06, [27] = 0xC0, [9] = 63}},
 };
 
 /* Lists of every sort of length, move i being controller 13 at i % 256, for a box of channel 5 or, out of range, 16; in
@@ -146,11 +159,11 @@ static const struct length {
     {"256 moves, a number too few", 256, 255, 0, 0, 5, FEW_NUMBERS},
     {"257 moves", 257, 257, 0, 0, 5, TOO_MANY},
     {"65537 moves", 65537, 300, 0, 0, 5, TOO_MANY},
-    {"33 before all others", 257, 256, 2, 1, 16, TOO_MANY},
-    {"34 before 32 and 30", 256, 255, 2, 1, 16, FEW_NUMBERS},
-    {"32 of the kind before 30", 256, 256, 2, 1, 5, NOT_SOUND},
+    {"33 before all others", 257, 256, 3, 1, 16, TOO_MANY},
+    {"34 before 32 and 30", 256, 255, 3, 1, 16, FEW_NUMBERS},
+    {"32 of the kind before 30", 256, 256, 3, 1, 5, NOT_SOUND},
     {"30 before 32 of a setting", 256, 256, 0, 1, 16, SHORT},
-    {"32 of the kind, an empty list", 0, 0, 2, 0, 5, NOT_SOUND},
+    {"32 of the kind, an empty list", 0, 0, 3, 0, 5, NOT_SOUND},
     {"30, an empty list", 0, 0, 0, 1, 5, SHORT},
     {"32 of a setting, an empty list", 0, 0, 0, 0, 16, NOT_SOUND},
 };
@@ -328,6 +341,7 @@ static void expect_no_kind(uint32_t kind, size_t most_memory, size_t most)
     expect(costerbloom_scale(13, 0, kind) == REFUSED + NOT_SOUND, "scale", "a kind that is none");
     expect(costerbloom_scale(200, 200, kind) == REFUSED + NOT_SOUND, "scale", "a kind that is none, before 17");
     expect(costerbloom_back(13, kind, memory, most_memory) == REFUSED + NOT_SOUND, "back", "a kind that is none");
+    expect(costerbloom_amp(0, kind) == REFUSED + NOT_SOUND, "amp", "a kind that is none");
     expect(receiver.stored == 5 && receiver.inside == 1 && receiver.over == 0 && receiver.running == 0 &&
                receiver.held == 0 && receiver.waiting == 0,
         "take", "a kind that is none changes the receiver");
@@ -337,7 +351,7 @@ static void expect_no_kind(uint32_t kind, size_t most_memory, size_t most)
         "take, whole or moves", "a kind that is none changes a buffer");
 }
 
-/* A Bass POD's call with a POD's buffers, and a POD's with a Bass POD's receiver. */
+/* A Bass POD's call with a POD's buffers, and the other two's with a Bass POD's receiver. */
 static void expect_apart(void)
 {
     costerbloom_receiver open = {.stored = 5500, .inside = 1};
@@ -348,6 +362,7 @@ static void expect_apart(void)
     expect(move(bass->number, pod->memory) == SHORT, "moves", "a POD's memory");
     expect(costerbloom_back(13, bass->number, memory, pod->memory) == REFUSED + SHORT, "back", "a POD's memory");
     expect(take(&open, 1, pod->number, bass->memory, bass->longest) == NOT_SOUND, "take", "5500 bytes stored on a POD");
+    expect(take(&open, 1, pro->number, bass->memory, bass->longest) == NOT_SOUND, "take", "5500 stored on a POD Pro");
     expect(take(&open, 1, bass->number, bass->memory, bass->longest) == TAKEN, "take", "5500 stored on a Bass POD");
 }
 
@@ -406,7 +421,7 @@ static uint8_t stored_at(const struct kind *k, const struct named *n, size_t sen
     return (uint8_t)(halves[0] << 4 | halves[1]);
 }
 
-/* A dump that is stored: of a POD it sets the marks of what it names, or clears them, of a Bass POD none. */
+/* A dump that is stored: it sets the marks of what it names, or clears them, but on a Bass POD none. */
 static void expect_stored(const struct kind *k, const struct named *n, size_t sent, uint8_t before, _Bool by_bytes)
 {
     fill(memory, sizeof memory, FILLED);
@@ -416,7 +431,7 @@ static void expect_stored(const struct kind *k, const struct named *n, size_t se
     for (size_t place = 0; place < sizeof memory; place++)
         expect(memory[place] == stored_at(k, n, sent, place), "a dump", "what is stored");
     for (size_t place = 0; place < sizeof marks; place++)
-        expect(marks[place] == (k == pod && is_named(n, place) ? sent == k->program : before), "a dump", "marks");
+        expect(marks[place] == (k->spare && is_named(n, place) ? sent == k->program : before), "a dump", "marks");
 }
 
 /* A request that is answered with so many bytes of each program, which are memory's. */
@@ -473,15 +488,15 @@ static void expect_spoiled(const struct kind *k, const struct named *n, size_t s
 }
 
 /* All programs, of which one lacks its spare byte, or one alone has it. */
-static void expect_uneven(void)
+static void expect_uneven(const struct kind *k)
 {
-    size_t longer = make_dump(pod, all_programs, 72), shorter = make_dump(pod, all_programs, 71);
+    size_t longer = make_dump(k, all_programs, 72), shorter = make_dump(k, all_programs, 71);
     dump[shorter - 1] = dump[shorter] = 0;
     dump[shorter + 1] = 0xF7;
-    expect_refused(pod, shorter + 2, WRONG_LENGTH);
-    make_dump(pod, all_programs, 72);
+    expect_refused(k, shorter + 2, WRONG_LENGTH);
+    make_dump(k, all_programs, 72);
     dump[longer - 3] = 0xF7;
-    expect_refused(pod, longer - 2, WRONG_LENGTH);
+    expect_refused(k, longer - 2, WRONG_LENGTH);
 }
 
 /* Dumps of every type, in and out, with the bytes that a unit of this kind may send of a program; with one less the
@@ -489,7 +504,7 @@ static void expect_uneven(void)
 static void expect_dumps(const struct kind *k)
 {
     for (const struct named *n = names; n < names_end; n++) {
-        size_t shorter = k->program - (k == pod);
+        size_t shorter = k->program - k->spare;
         for (uint8_t turn = 0; turn < 8; turn++) {
             size_t sent = turn < 4 ? k->program : shorter;
             expect_stored(k, n, sent, turn % 2, turn / 2 % 2);
@@ -507,19 +522,24 @@ static uint8_t held_at(size_t place)
     return (uint8_t)((5 * place + place / 256) | 1);
 }
 
-/* One mark against all others, set or clear: a POD's reply is long where all marks are set of what is asked for. No
- * byte of memory is 0, and none changes, a spare one neither. */
-static void expect_replies(const struct kind *k)
+static void hold(void)
 {
     for (size_t place = 0; place < sizeof memory; place++)
         memory[place] = held_at(place);
+}
+
+/* One mark against all others, set or clear: a reply is long where all marks are set of what is asked for, and on a
+ * Bass POD always. No byte of memory is 0, and none changes, a spare one neither. */
+static void expect_replies(const struct kind *k)
+{
+    hold();
     for (size_t turn = 0; turn < 2 * COSTERBLOOM_MARKS; turn++) {
         uint8_t others = turn % 2, *mark = &marks[turn / 2];
         fill(marks, sizeof marks, others);
         *mark = !others;
         for (const struct named *n = names; n < names_end; n++) {
-            _Bool is_short = k == pod && !is_full_of(marks + n->first, n->programs, 1);
-            expect_reply(k, n, k->program - is_short, turn / 2 % 2);
+            _Bool is_long = is_full_of(marks + n->first, n->programs, 1);
+            expect_reply(k, n, is_long ? k->program : k->program - k->spare, turn / 2 % 2);
         }
         expect(*mark == !others, "a request", "that mark changes");
         *mark = others;
@@ -545,11 +565,14 @@ static void expect_left(const struct kind *k)
     }
 }
 
-/* A dump of program 0x23, taken by its own kind alone. */
-static void expect_dump(const struct kind *k, const struct kind *other)
+/* A dump of program 0x23, taken by every kind that has its device byte, and by no other. */
+static void expect_dump(const struct kind *k)
 {
     size_t length = make_dump(k, last_program, k->program);
-    expect(whole(dump, length, other->number, sizeof memory, sizeof reply) == NOT_OURS, "whole", "the other's dump");
+    for (const struct kind *other = kinds; other < kinds_end; other++) {
+        uint64_t number = other->device == k->device ? STORED : NOT_OURS;
+        expect(whole(dump, length, other->number, sizeof memory, sizeof reply) == number, "whole", "another's dump");
+    }
     expect(send(k, dump, length, 1) == STORED, "take", "a dump");
 }
 
@@ -576,7 +599,7 @@ static void expect_programs(const struct kind *k)
 {
     fill(memory, sizeof memory, 0);
     fill(marks, sizeof marks, 1);
-    expect_dump(k, k == pod ? bass : pod);
+    expect_dump(k);
     expect_changes(k);
     expect_reply(k, edit_buffer, k->program, 0);
 }
@@ -617,6 +640,65 @@ static void expect_bass_numbers(void)
     expect(costerbloom_back(13, 1, memory, 2959) == REFUSED + 30, "back", "a memory of 2959 bytes");
 }
 
+/* The same of a POD Pro: 9>35 by v/2, which no other kind has, and else as a POD. */
+static void expect_pro_numbers(void)
+{
+    uint8_t *edit = memory + pro->memory - pro->program;
+    fill(memory, sizeof memory, 0);
+    expect(costerbloom_scale(9, 127, 2) == 63, "scale", "9 at 127 on a POD Pro");
+    expect(costerbloom_scale(9, 128, 2) == REFUSED + 18, "scale", "9 at 128 on a POD Pro");
+    expect(costerbloom_scale(9, 127, 0) == REFUSED + 17, "scale", "9 at 127 on a POD");
+    expect(costerbloom_scale(9, 127, 1) == REFUSED + 17, "scale", "9 at 127 on a Bass POD");
+    expect(costerbloom_scale(51, 127, 2) == 6350, "scale", "51 at 127 on a POD Pro");
+    edit[35] = 63;
+    expect(costerbloom_back(9, 2, memory, 2664) == 126, "back", "9 from 63 on a POD Pro");
+    expect(costerbloom_back(9, 0, memory, 2664) == REFUSED + 17, "back", "9 on a POD");
+    expect(costerbloom_back(9, 1, memory, 2960) == REFUSED + 17, "back", "9 on a Bass POD");
+    expect(costerbloom_back(9, 2, memory, 2663) == REFUSED + 30, "back", "a POD Pro's memory of 2663 bytes");
+}
+
+/* Which amp models are known, numbers that must not be cut among them: controller 12 takes these, and no others. */
+static void expect_models(const struct kind *k)
+{
+    static const uint32_t models[] = {0, 15, 16, 27, 28, 31, 32, 127, 128, 255, 256, 65536, 0xFFFFFFFF};
+    for (size_t i = 0; i < sizeof models / sizeof *models; i++) {
+        _Bool known = models[i] <= k->last_model;
+        expect(costerbloom_amp(models[i], k->number) == known, "amp", "a model");
+        expect(costerbloom_scale(12, models[i], k->number) == (known ? models[i] : REFUSED + 18), "scale", "a model");
+    }
+}
+
+/* A dump is stored and sent again with any amp model, and from the stored byte the box says whether it is known. */
+static void expect_stored_models(const struct kind *k)
+{
+    const uint8_t *stored = memory + k->memory - k->program + k->amp;
+    size_t length = make_dump(k, edit_buffer, k->program);
+    uint8_t *halves = dump + head_length(edit_buffer) + 1 + 2 * k->amp;
+    for (uint32_t model = 0; model < 256; model++) {
+        _Bool known = model <= k->last_model;
+        halves[0] = (uint8_t)(model >> 4);
+        halves[1] = model & 15;
+        expect(send(k, dump, length, model % 2) == STORED && *stored == model, "a dump", "any amp model");
+        expect_reply(k, edit_buffer, k->program, model % 2);
+        expect(costerbloom_amp(*stored, k->number) == known, "amp", "a stored model");
+        expect(costerbloom_back(12, k->number, memory, k->memory) == (known ? model : REFUSED + 40), "back", "a model");
+    }
+}
+
+/* Either unit's dump may be stored in either: what one sends of all its programs the other stores, and then has. */
+static void expect_exchanged(const struct kind *from, const struct kind *to)
+{
+    hold();
+    fill(marks, sizeof marks, 1);
+    expect_reply(from, all_programs, from->program, 0);
+    for (size_t place = 0; place < from->longest; place++)
+        dump[place] = reply[place];
+    fill(memory, sizeof memory, 0);
+    expect(send(to, dump, to->longest, 1) == STORED, "take", "a dump from a POD to a POD Pro, or back");
+    for (size_t place = 0; place < to->memory - to->program; place++)
+        expect(memory[place] == held_at(place), "a dump from a POD to a POD Pro, or back", "what is stored");
+}
+
 int main(void)
 {
     for (const struct kind *k = kinds; k < kinds_end; k++) {
@@ -627,14 +709,20 @@ int main(void)
         expect_dumps(k);
         expect_replies(k);
         expect_left(k);
+        expect_models(k);
+        expect_stored_models(k);
     }
     for (size_t i = 0; i < sizeof no_kinds / sizeof *no_kinds; i++) {
         expect_no_kind(no_kinds[i], sizeof memory, sizeof reply);
         expect_no_kind(no_kinds[i], 0, 0);
     }
-    expect_uneven();
+    expect_uneven(pod);
+    expect_uneven(pro);
     expect_apart();
+    expect_exchanged(pod, pro);
+    expect_exchanged(pro, pod);
     expect_numbers();
     expect_bass_numbers();
+    expect_pro_numbers();
     return wrong;
 }

@@ -40,6 +40,9 @@ static const struct {
     {"B0 0D on a Bass POD", COSTERBLOOM_BASS_POD, 0xB0, 0x0D, 1, {0, 0, 0, 0, 0xB0, 1, 0x0D}},
     {"F0 and 5767 bytes on a Bass POD", COSTERBLOOM_BASS_POD, 0xF0, 0, 5767, {0x88, 0x16, 1, 0, 0, 0, 0}},
     {"F0 and 5768 bytes on a Bass POD", COSTERBLOOM_BASS_POD, 0xF0, 0, 5768, {0x88, 0x16, 1, 1, 0, 0, 0}},
+    {"B0 09 on a POD Pro", COSTERBLOOM_POD_PRO, 0xB0, 0x09, 1, {0, 0, 0, 0, 0xB0, 1, 0x09}},
+    {"F0 and 5191 bytes on a POD Pro", COSTERBLOOM_POD_PRO, 0xF0, 0, 5191, {0x48, 0x14, 1, 0, 0, 0, 0}},
+    {"F0 and 5192 bytes on a POD Pro", COSTERBLOOM_POD_PRO, 0xF0, 0, 5192, {0x48, 0x14, 1, 1, 0, 0, 0}},
 };
 
 /* A list for a POD, and what becomes of each move: its number, and the byte of the edit buffer that holds its value

@@ -15,8 +15,8 @@ static void say_that(const char *name, const char *what)
     say(what);
 }
 
-/* A file of another length is not ours, or is the other kind's: it is refused here, before anything of it could be
- * written over. */
+/* A file of another length is not ours, or is of a kind whose programs have another size: it is refused here, before
+ * anything of it could be written over. A POD's and a POD Pro's cannot be told apart, and need not be. */
 static _Bool has_another_length(const char *name, size_t found, size_t length)
 {
     say_that(name, " is not a programs file of this kind: it has ");

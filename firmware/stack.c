@@ -17,6 +17,8 @@ static const struct kind {
         {0xF0, 0, 1, 0x0C, 1, 0, 2, 0xF7}},
     {COSTERBLOOM_BASS_POD, COSTERBLOOM_BASS_POD_MEMORY - COSTERBLOOM_BASS_POD_PROGRAM, COSTERBLOOM_BASS_POD_LONGEST,
         COSTERBLOOM_BASS_POD_LONGEST, {0xF0, 0, 1, 0x0C, 2, 0, 2, 0xF7}},
+    {COSTERBLOOM_POD_PRO, COSTERBLOOM_POD_PRO_MEMORY - COSTERBLOOM_POD_PRO_PROGRAM, COSTERBLOOM_POD_PRO_LONGEST, 5121,
+        {0xF0, 0, 1, 0x0C, 1, 0, 2, 0xF7}},
 };
 
 static uint8_t stack[4 * MOST] __attribute__((aligned(16)));
@@ -48,7 +50,8 @@ static uint64_t whole(const uint8_t *message, size_t length)
         sizeof marks, reply, sizeof reply);
 }
 
-/* Each controller under each effect, at the values where a search ends first and last; and each program change. */
+/* Each controller under each effect, at the values where a search ends first and last, and these as amp models; and
+ * each program change. */
 static void moves(void)
 {
     for (uint32_t place = 0; place < 16 * 128; place++) {
@@ -60,6 +63,7 @@ static void moves(void)
             applied += take(value) == APPLIED;
             costerbloom_scale(controller, value, kind->number);
             costerbloom_back(controller, kind->number, memory, sizeof memory);
+            costerbloom_amp(value, kind->number);
         }
     }
     take(0xC0);

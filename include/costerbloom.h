@@ -1,16 +1,24 @@
 /* Costerbloom: the proved heart of a small MIDI box, for firmware.
  *
- * A box is set as one kind of unit before use, POD or Bass POD, and every call brings that kind. Programs of the two
- * stand at different places of memory: a box that is set as the other kind begins with fresh memory, marks and
- * receivers.
+ * A box is set as one kind of unit before use, POD, Bass POD or POD Pro, and every call brings that kind. A POD Pro is
+ * a POD but for three things, and what is said of a POD below holds of both:
+ *
+ *                                        POD           POD Pro              Bass POD
+ *   identity                             00 00 00 01   00 00 00 04          02 00 00 00
+ *   controller 12, amp model             up to 27      up to 31             up to 15
+ *   controller 9, digital output gain    none (17)     to byte 35, by v/2   none (17)
+ *
+ * Programs of a POD and of a POD Pro stand at the same places: either may read the other's memory, marks and receivers,
+ * and store its dumps. Those of a Bass POD stand at others: a box that is set as one, or was one before, begins with
+ * fresh memory, marks and receivers.
  *
  * The caller owns every buffer; no call keeps a pointer, allocates, or waits. Lent at least:
  *
- *                                                   POD   Bass POD   either
- *   memory: 36 programs, then the edit buffer     2,664      2,960    2,960
- *   marks: one for each of these                     37         37       37
- *   a receive buffer for each socket              5,193      5,769    5,769
- *   a reply buffer                                5,193      5,769    5,769
+ *                                                 POD, POD Pro   Bass POD   any kind
+ *   memory: 36 programs, then the edit buffer            2,664      2,960      2,960
+ *   marks: one for each of these                            37         37         37
+ *   a receive buffer for each socket                     5,193      5,769      5,769
+ *   a reply buffer                                       5,193      5,769      5,769
  *   a number buffer for a list of moves           a byte for each move
  *
  * A program has 72 bytes on a POD and 80 on a Bass POD, and so has the edit buffer. More may be lent; the rest is not
@@ -28,7 +36,7 @@
  * Fresh memory is all zero, and so is a fresh receiver; but fresh marks are 1, all of them, so set them before the
  * first byte.
  *
- * Settings, the same for both kinds: channel 0 to 15, omni 0 or 1, four revision bytes of at most 0x7F.
+ * Settings, the same for every kind: channel 0 to 15, omni 0 or 1, four revision bytes of at most 0x7F.
  */
 #ifndef COSTERBLOOM_H
 #define COSTERBLOOM_H
@@ -41,7 +49,7 @@ extern "C" {
 #endif
 
 /* The kinds. Any other number is refused with 32, before all else is tested but the length of a list (33, 34). */
-enum { COSTERBLOOM_POD = 0, COSTERBLOOM_BASS_POD = 1 };
+enum { COSTERBLOOM_POD = 0, COSTERBLOOM_BASS_POD = 1, COSTERBLOOM_POD_PRO = 2 };
 
 /* The lengths to lend follow from a program's size: 36 programs and the edit buffer; the dump of all programs, two half
  * bytes for each of their bytes and 9 bytes around them. */
@@ -57,7 +65,11 @@ enum {
     COSTERBLOOM_BASS_POD_MEMORY = COSTERBLOOM_MEMORY_OF(COSTERBLOOM_BASS_POD_PROGRAM),
     COSTERBLOOM_BASS_POD_LONGEST = COSTERBLOOM_LONGEST_OF(COSTERBLOOM_BASS_POD_PROGRAM),
 
-    /* the largest, for a box that may be set as either kind */
+    COSTERBLOOM_POD_PRO_PROGRAM = 72,
+    COSTERBLOOM_POD_PRO_MEMORY = COSTERBLOOM_MEMORY_OF(COSTERBLOOM_POD_PRO_PROGRAM),
+    COSTERBLOOM_POD_PRO_LONGEST = COSTERBLOOM_LONGEST_OF(COSTERBLOOM_POD_PRO_PROGRAM),
+
+    /* the largest, for a box that may be set as any kind */
     COSTERBLOOM_MEMORY = COSTERBLOOM_BASS_POD_MEMORY,
     COSTERBLOOM_LONGEST = COSTERBLOOM_BASS_POD_LONGEST,
 
@@ -89,10 +101,11 @@ enum { COSTERBLOOM_MOST_MOVES = 256 };
  *    3  controller applied                            Bass POD, than a program change of 1 to 36
  *    4  SysEx cut                                 22  identity request for another channel, not omni
  *   10  SysEx too long                            30  a lent buffer too short
- *   11  not ours, or the other kind's             31  socket not 0 or 1
- *   12  opcode or type unknown or missing         32  a kind that is none (tested before 30); receiver
- *   13  wrong length; on a POD a dump's is            not sound, a setting out of range, or a mark
- *       neither the long nor the short one            of the 37 neither 0 nor 1 (tested after 31)
+ *   11  not ours: on a POD also a Bass POD's,     31  socket not 0 or 1
+ *       on a Bass POD also a POD's                32  a kind that is none (tested before 30); receiver
+ *   12  opcode or type unknown or missing             not sound, a setting out of range, or a mark
+ *   13  wrong length; on a POD a dump's is            of the 37 neither 0 nor 1 (tested after 31)
+ *       neither the long nor the short one
  *   14  program above 0x23
  *   15  version not 0
  *   16  a data byte above 0x0F
@@ -146,8 +159,14 @@ uint32_t costerbloom_scale(uint32_t controller, uint32_t value, uint32_t kind);
 
 /* The smallest value of a controller of the kind that gives what its bytes of the edit buffer hold: the value, at most
  * 127, or 65536 + the refusal: 32 for a kind that is none, then 30, 17 or 19 as above, or 40 where no value gives it: a
- * dump can bring any number, one below a least number too. `memory` is all of it, as for the others. */
+ * dump can bring any number, one below a least number or an amp model that the kind does not know too. `memory` is all
+ * of it, as for the others. */
 uint32_t costerbloom_back(uint32_t controller, uint32_t kind, const uint8_t *memory, size_t memory_length);
+
+/* Whether the kind knows an amp model, which byte 8 of a program holds, on a Bass POD byte 3: 1 where it does, up to 27
+ * on a POD, 31 on a POD Pro and 15 on a Bass POD, else 0; or 65536 + 32 for a kind that is none. Dumps are stored and
+ * sent whatever models they bring. */
+uint32_t costerbloom_amp(uint32_t model, uint32_t kind);
 
 #ifdef __cplusplus
 }

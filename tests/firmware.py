@@ -111,7 +111,8 @@ def halves(data):
 
 POD = Kind('pod', 72, 2664, 0x01, '00 00 00 01', False)
 BASS = Kind('bass', 80, 2960, 0x02, '02 00 00 00', True)
-KINDS = POD, BASS
+PRO = Kind('pro', 72, 2664, 0x01, '00 00 00 04', False)
+KINDS = POD, BASS, PRO
 
 
 class Ran(NamedTuple):
@@ -266,14 +267,41 @@ def check_program_change(bench):
     assert bench.saved() == bench.some[:PROGRAMS * kind.size] + edit + SET
 
 
-def check_other_kind(bench):
-    """The other unit's dump is not ours, on either socket."""
+def check_pro_moves(bench):
+    """Controller 12 at 31 and controller 9 are applied by a POD Pro alone."""
+    stream = bytes.fromhex('B0 0C 1F 09 7F')
+    assert bench.run(stream, b'') == well(b'', b'')
+    edit = bytearray(bench.kind.size)
+    if bench.kind is PRO:
+        # "amp model up to 31, and controller 9 to byte 35 by v/2"
+        edit[8], edit[35] = 0x1F, 0x7F // 2
+    assert bench.saved() == bytes(PROGRAMS * bench.kind.size) + edit + SET
+
+
+def check_other_device(bench):
+    """A dump with the other device byte is not ours, on either socket."""
     bench.programs.write_bytes(bench.some)
-    other, = set(KINDS) - {bench.kind}
+    other = POD if bench.kind is BASS else BASS
     streams = (other.dump(0, other.program(3)) + other.ask(0),
                other.dump_all(other.programs(5)) + other.ask_edit())
     assert bench.run(*streams) == well(b'', b'')
     assert bench.saved() == bench.some
+
+
+def check_exchanged(bench):
+    """A POD Pro's dumps and its file are a POD's too, and the other way."""
+    other = POD if bench.kind is PRO else PRO
+    # "Either unit's dump may be stored in either", with an amp model that
+    # a POD does not know
+    one, short = changed(bench.one, 8, 31), other.short(bench.other)
+    assert (bench.run(other.dump(7, one), other.dump_edit(short))
+            == well(b'', b''))
+    saved = bench.saved()
+    with closing(Bench(bench.folder, other)) as beside:
+        assert (beside.run(other.ask(7) + IDENTITY, other.ask_edit())
+                == well(other.dump(7, one) + other.identified(),
+                        other.dump_edit(short)))
+    assert bench.saved() == saved
 
 
 def check_kept(bench):
@@ -591,8 +619,8 @@ def check_usage(bench):
     files = [bench.programs, *bench.inputs, *bench.outputs]
     wrong = [[], ['pod'], ['pod', *files[:-1]], ['bass', *files, 'more'],
              files]
-    wrong += [[word, *files] for word in ('POD', 'po', 'bas', 'bassy', '1',
-                                          '')]
+    wrong += [[word, *files] for word in ('POD', 'po', 'bas', 'bassy', 'pr',
+                                          'pros', 'pod pro', '1', '')]
     for words in wrong:
         ran = bench.end(bench.begin(BOX, *words))
         assert ran.status == 2, ran
@@ -726,18 +754,17 @@ def check_fault(bench):
     assert bench.saved() == bench.some
 
 
-EITHER = (check_bench_case, check_program_change, check_other_kind,
-          check_kept, check_without_marks, check_marks_left, check_refused,
-          check_apart, check_long, check_mixed, check_unread, check_signal,
-          check_signal_when_stuck, check_signal_when_busy, check_power_cut,
-          check_seldom, check_waits, check_nothing_stored,
-          check_wrong_length, check_wrong_mark, check_cannot_load,
-          check_cannot_open,
-          check_cannot_move, check_unplugged, check_cannot_save,
-          check_saved_later, check_fault)
-CHECKS = {POD: (check_exports, check_usage, check_short, check_short_all,
-                check_mark_alone, *EITHER),
-          BASS: EITHER}
+EACH = (check_bench_case, check_program_change, check_pro_moves,
+        check_other_device, check_kept, check_without_marks,
+        check_marks_left, check_refused, check_apart, check_long,
+        check_mixed, check_unread, check_signal, check_signal_when_stuck,
+        check_signal_when_busy, check_power_cut, check_seldom, check_waits,
+        check_nothing_stored, check_wrong_length, check_wrong_mark,
+        check_cannot_load, check_cannot_open, check_cannot_move,
+        check_unplugged, check_cannot_save, check_saved_later, check_fault)
+PODS = (check_short, check_short_all, check_mark_alone, check_exchanged,
+        *EACH)
+CHECKS = {POD: (check_exports, check_usage, *PODS), BASS: EACH, PRO: PODS}
 
 
 def out_of_patience(*_):

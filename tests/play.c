@@ -171,6 +171,12 @@ static void back(void)
     calls++;
 }
 
+static void amp(uint32_t model)
+{
+    print_value('G', costerbloom_amp(model, kind));
+    calls++;
+}
+
 /* Commands */
 
 static void pattern(size_t from, uint8_t v)
@@ -219,6 +225,7 @@ static void play(command c)
         case 'M': feed(socket); break;
         case 'K': scale(wide); break;
         case 'D': back(); break;
+        case 'G': amp(wide); break;
     }
 }
 
