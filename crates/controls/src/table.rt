@@ -49,10 +49,15 @@ pub fn row_of(controller: u32, kind: Kind) -> Row
     ensures { λ r. ⌜ r ≡ rowOf kind controller ⌝ }
 {
     match kind {
-        Kind::Pod => pod_row(controller),
-        Kind::BassPod => bass_row(controller),
-        Kind::PodPro => pro_row(controller),
+        Kind::Pod => {}
+        Kind::BassPod => return bass_row(controller),
+        Kind::PodPro => match controller {
+            12 => return row(8, 1, AS_RECEIVED, 0, 31, NONE),
+            9 => return row(35, 1, V_2, 0, 127, NONE),
+            _ => {}
+        },
     }
+    pod_row(controller)
 }
 
 // The 49 controllers of a POD: the first byte of the field, the bytes, the formula, the least number, the highest value,
@@ -130,17 +135,6 @@ fn bass_row(controller: u32) -> Row
         18 => row(11, 1, V_2, 0, 127, NONE),
         1 => row(50, 1, V_2, 0, 127, NONE),
         _ => row(0, 0, 0, 0, 0, NONE),
-    }
-}
-
-// A POD's, but that the Pro has more amp models, and a digital output gain.
-fn pro_row(controller: u32) -> Row
-    ensures { λ r. ⌜ r ≡ rowOf PodPro controller ⌝ }
-{
-    match controller {
-        12 => row(8, 1, AS_RECEIVED, 0, 31, NONE),
-        9 => row(35, 1, V_2, 0, 127, NONE),
-        _ => pod_row(controller),
     }
 }
 

@@ -13,6 +13,7 @@ pub mod Byte48
 pub mod Byte46
 pub mod EditAlone
 pub mod ProgramChange
+pub mod EitherUnit
 pub mod Reasons
 pub mod Sockets
 pub mod ManyMoves

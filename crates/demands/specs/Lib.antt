@@ -6,4 +6,5 @@ pub mod Marks
 pub mod Moves
 pub mod Reasons
 pub mod Byte48
+pub mod EitherUnit
 pub mod Told
