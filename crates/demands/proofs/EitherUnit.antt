@@ -1,30 +1,52 @@
 -- What a POD and a POD Pro do alike: every SysEx that is not an identity request, on a socket and handed over whole, and every controller but those that are apart.
 use Prim.Native.Nat.{ℕ, _≤_, _<_}
-use mathlib.Core.Bool.{Bool, true, false, cond}
+use mathlib.Core.Bool.{Bool, true, false, false≢true, cond}
 use mathlib.Core.List.{List, [], _∷_}
+use mathlib.Core.Logic.{⊎-elim}
 use mathlib.Core.Path.{_≡_, refl, sym, ap, _∙_}
+use native.Mathlib.Nat.{lt-of-not-le}
 use native.Mathlib.Omega.{arith}
-use lib.Dec.{eqb, leb}
-use Rattle.ground.specs.Tests.{tested}
-use Rattle.ground.proofs.Tests.{by}
+use lib.Dec.{eqb, leb, ltb}
+use lib.ListN.{length, getD}
+use borrow.Author.Tests.{eqb-true, eqb-false, leb-true, leb-false, ltb-true, le-leb, lt-leb, lt-ltb}
+use Rattle.ground.specs.Tests.{Test, tested}
+use Rattle.ground.proofs.InOrder.{tested-cases}
+use Rattle.ground.proofs.Tests.{both, one-of, by}
+use Rattle.kinds.specs.declared.Kind.{Kind}
 use Rattle.kinds.specs.declared.Kind.the-variants.{Pod, PodPro}
-use Rattle.kinds.specs.Kinds.{isKind, kindOf, numberOf, sizeOf, hasSpare, deviceOf, takesProgramChange}
-use Rattle.programs.specs.Held.{Held, Target}
+use Rattle.kinds.specs.Kinds.{isKind, kindOf, numberOf, sizeOf, hasSpare, deviceOf, takesProgramChange, highestModel}
+use Rattle.programs.specs.Held.{Held, Target, Edit, bytesIn}
+use Rattle.controls.specs.declared.Change.the-variants as change
+use Rattle.controls.specs.declared.Reading.{Reading}
+use Rattle.controls.specs.declared.Reading.the-variants.{Value, Refused}
+use Rattle.controls.specs.Formulas.{numberBy, numberFor, nextFor}
+use Rattle.controls.specs.Table.{table, rowOf, selected}
+use Rattle.controls.specs.Answers.{changeNumber, refusalOf}
+use Rattle.controls.specs.Applying.{Changed, storeRow, applyOf}
+use Rattle.controls.specs.Fields.{readAt}
+use Rattle.controls.specs.Scaling.{scaleOf}
+use Rattle.controls.specs.Showing.{shownOf, backOf}
+use Rattle.controls.proofs.Rows.{as-on-pod}
+use Rattle.controls.proofs.Back.{formed, row-shown}
 use Rattle.framing.specs.declared.Receiver.{Receiver}
 use Rattle.framing.specs.Bytes.{stepOf}
 use Rattle.sockets.specs.Framer.{Message, SysEx, TooLong, Channel, Happening, Nothing, Cut, Finished}
-use Rattle.sockets.specs.Calls.{Socket}
-use Rattle.sockets.specs.Box.{happeningDoes}
-use Rattle.sockets.specs.Promise.{happeningOf, stepDoes, byteOf, directOf}
+use Rattle.sockets.specs.Calls.{Socket, handing}
+use Rattle.sockets.specs.Box.{saidsOf, heldAfter, happeningDoes}
+use Rattle.sockets.specs.Promise.{happeningOf, socketNumber, socketOf, stepDoes, byteOf, directOf}
 use Rattle.sysex.specs.declared.Settings.{Settings}
+use Rattle.sysex.specs.declared.Check.{Check}
 use Rattle.sysex.specs.declared.Order.{Order}
 use Rattle.sysex.specs.declared.Order.the-variants as order
-use Rattle.sysex.specs.Forms.{bodyLength, isIdentity, dumpBody}
-use Rattle.sysex.specs.Judging.{hasForm, furtherTests, bodyOrder, orderOf, judgeOf}
-use Rattle.sysex.specs.Carrying.{orderDoes, bodyDoes}
-use Rattle.podbox.specs.Whole.{bodyOf, messageOrder, handedDoes}
-use Rattle.podbox.specs.Box.{limit, panel, boxRules, takeOf, wholeOf}
-use Rattle.demands.specs.EitherUnit.{Alike, AlikeAt}
+use Rattle.sysex.specs.Forms.{request, program, edit, bodyLength, isIdentity, dumpBody}
+use Rattle.sysex.specs.Judging.{judgedBy, hasForm, furtherTests, testsOf, orderOf, formOrder, bodyOrder, judgeOf}
+use Rattle.sysex.specs.Carrying.{Outcome, refusing, orderDoes, bodyDoes}
+use Rattle.podbox.specs.Messages.{isController, isProgramChange, channelTests, controllerDoes, programChangeDoes, channelDoes, messageDoes}
+use Rattle.podbox.specs.declared.Move.{Move}
+use Rattle.podbox.specs.Moves.{moveMessage}
+use Rattle.podbox.specs.Whole.{bodyOf, messageTests, messageOrder, handedDoes}
+use Rattle.podbox.specs.Box.{Moves, limit, handsOf, panel, boxRules, takeOf, wholeOf, movesOf}
+use Rattle.demands.specs.EitherUnit.{isApart, Alike, AlikeAt, AlikeMoves}
 
 -- A message is judged alike, and so `why` says the same of it, whatever it is.
 pub judged-alike : (settings : Settings) (message : List ℕ) → messageOrder PodPro settings message ≡ messageOrder Pod settings message
@@ -34,3 +56,218 @@ judged-alike settings message = refl
 body-judged : (settings : Settings) (body : List ℕ) → judgeOf PodPro settings body ≡ judgeOf Pod settings body
 unfolding judgeOf hasForm furtherTests bodyLength sizeOf hasSpare deviceOf
 body-judged settings body = refl
+
+-- Both send the same dump.
+pub same-dump : (t : Target) (bytes : List ℕ) → dumpBody PodPro t bytes ≡ dumpBody Pod t bytes
+unfolding deviceOf
+same-dump t bytes = refl
+
+-- an order that is not to identify
+abbrev NotIdentify : Order → Type 0
+NotIdentify (order.Identify cc) = ⊥
+NotIdentify (order.SendProgram p) = Unit {0}
+NotIdentify order.SendEdit = Unit {0}
+NotIdentify order.SendAll = Unit {0}
+NotIdentify (order.StoreProgram p) = Unit {0}
+NotIdentify order.StoreEdit = Unit {0}
+NotIdentify order.StoreAll = Unit {0}
+NotIdentify (order.Refused check) = Unit {0}
+
+order-alike : (settings : Settings) (player : ℕ) (o : Order) (body : List ℕ) (held : Held) → NotIdentify o
+    → orderDoes PodPro settings player o body held ≡ orderDoes Pod settings player o body held
+unfolding orderDoes sizeOf hasSpare deviceOf
+order-alike settings player (order.Identify cc) body held not = absurd not
+order-alike settings player (order.SendProgram p) body held not = refl
+order-alike settings player order.SendEdit body held not = refl
+order-alike settings player order.SendAll body held not = refl
+order-alike settings player (order.StoreProgram p) body held not = refl
+order-alike settings player order.StoreEdit body held not = refl
+order-alike settings player order.StoreAll body held not = refl
+order-alike settings player (order.Refused check) body held not = refl
+
+-- what is no identity request is not judged to be one
+form-order : (opcode type number : ℕ) → NotIdentify (orderOf opcode type number)
+unfolding orderOf
+form-order opcode type number =
+    by NotIdentify (eqb opcode request) _ _
+    (λ _. by NotIdentify (eqb type program) _ _ (λ _. tt) (λ _. by NotIdentify (eqb type edit) _ _ (λ _. tt) (λ _. tt)))
+    (λ _. by NotIdentify (eqb type program) _ _ (λ _. tt) (λ _. by NotIdentify (eqb type edit) _ _ (λ _. tt) (λ _. tt)))
+
+not-identify : (tests : List (Test Check)) (body : List ℕ) → isIdentity body ≡ false → NotIdentify (judgedBy tests (bodyOrder body))
+unfolding bodyOrder
+not-identify tests body other = rw other (tested-cases NotIdentify tests order.Refused (formOrder body) (λ _. form-order _ _ _) (λ _ _. tt))
+
+module _ (settings : Settings) (player : ℕ) (held : Held) where
+  -- Every SysEx that is not an identity request does the same,
+  pub sysex-alike : (body : List ℕ) → isIdentity body ≡ false → bodyDoes PodPro settings player body held ≡ bodyDoes Pod settings player body held
+  unfolding judgeOf
+  sysex-alike body other =
+      rw (body-judged settings body) (order-alike settings player (judgeOf Pod settings body) body held (not-identify (testsOf Pod settings body) body other))
+
+  -- and so it does where it is handed over whole
+  pub handed-alike : (message : List ℕ) → isIdentity (bodyOf message) ≡ false → handedDoes PodPro settings player message held ≡ handedDoes Pod settings player message held
+  unfolding messageOrder
+  handed-alike message other =
+      rw (judged-alike settings message)
+      (order-alike settings player (messageOrder Pod settings message) (bodyOf message) held (not-identify (messageTests Pod settings message) (bodyOf message) other))
+
+-- where 12 has a value that is not apart, it is in range on both or on neither
+in-range : (value : ℕ) (pod pro : Bool) → leb value 27 ≡ pod → leb value 31 ≡ pro → isApart 12 value ≡ false → pro ≡ pod
+unfolding highestModel
+in-range value true true p q t = refl
+in-range value true false p q t = let low = leb-true value 27 p in let high = leb-false value 31 q in absurd (omega arith)
+in-range value false true p q t =
+    let above = leb-false value 27 p in
+    absurd (false≢true (sym (rw (lt-ltb 27 value above, q) at t)))
+in-range value false false p q t = refl
+
+same-range : (value : ℕ) → isApart 12 value ≡ false → leb value 31 ≡ leb value 27
+same-range value = in-range value (leb value 27) (leb value 31) refl refl
+
+-- a controller is 9, 12 or another, whose row is the same on both
+by-row : (P : ℕ → Type 0) → (controller : ℕ) → P 9 → P 12 → (rowOf PodPro controller ≡ rowOf Pod controller → P controller) → P controller
+by-row P controller nine twelve other =
+    choose (eqb controller 9) (eqb controller 12) refl refl
+  where
+    choose : (is-9 is-12 : Bool) → eqb controller 9 ≡ is-9 → eqb controller 12 ≡ is-12 → P controller
+    choose true is-12 e f = rw (eqb-true controller 9 e) nine
+    choose false true e f = rw (eqb-true controller 12 f) twelve
+    choose false false e f = other (as-on-pod controller (eqb-false controller 9 e) (eqb-false controller 12 f))
+
+-- The controllers of the two differ by 9 and by 12 above 27 alone: scaled,
+pub scaled-alike : (controller value : ℕ) → isApart controller value ≡ false → scaleOf PodPro controller value ≡ scaleOf Pod controller value
+unfolding scaleOf rowOf table highestModel numberFor numberBy
+scaled-alike controller value =
+    by-row (λ c. isApart c value ≡ false → scaleOf PodPro c value ≡ scaleOf Pod c value) controller
+    (λ t. absurd (false≢true (sym t)))
+    (λ t. rw (same-range value t))
+    (λ same t. rw same)
+
+-- what is apart is 9, or 12 with a model from 28 to 31
+by-apart : (P : ℕ → Type 0) → (controller value : ℕ) → isApart controller value ≡ true → P 9 → (27 < value → value ≤ 31 → P 12) → P controller
+unfolding highestModel
+by-apart P controller value t nine twelve =
+    ⊎-elim (λ e. rw (eqb-true controller 9 e) nine)
+    (λ rest.
+    let p = both (eqb controller 12) _ rest in
+    let q = both (ltb 27 value) (leb value 31) (p .1) in
+    rw (eqb-true controller 12 (p .0)) (twelve (ltb-true 27 value (q .0)) (leb-true value 31 (q .1))))
+    (one-of (eqb controller 9) _ t)
+
+pub scaled-apart : (controller value : ℕ) → isApart controller value ≡ true → scaleOf PodPro controller value ≡ scaleOf Pod controller value → ⊥
+unfolding scaleOf rowOf table highestModel
+scaled-apart controller value t =
+    by-apart (λ c. scaleOf PodPro c value ≡ scaleOf Pod c value → ⊥) controller value t
+    (by (λ (r : Reading). r ≡ Refused 17 → ⊥) (leb value 127) _ _ (λ _ e. let z : _≡_ {A = ℕ} 0 1 = cc in omega arith) (λ _ e. let z : _≡_ {A = ℕ} 18 17 = ap refusalOf e in omega arith))
+    (λ above within e. let z : _≡_ {A = ℕ} 0 18 = ap refusalOf (rw (lt-leb value 27 above, le-leb value 31 within) at e) in omega arith)
+
+-- applied,
+module _ (controller value : ℕ) (edit : List ℕ) where
+  pub applied-alike : isApart controller value ≡ false → applyOf PodPro controller value edit ≡ applyOf Pod controller value edit
+  unfolding applyOf storeRow nextFor numberFor numberBy rowOf table highestModel sizeOf
+  applied-alike =
+      by-row (λ c. isApart c value ≡ false → applyOf PodPro c value edit ≡ applyOf Pod c value edit) controller
+      (λ t. absurd (false≢true (sym t)))
+      (λ t. rw (same-range value t))
+      (λ same t. rw same)
+
+  pub applied-apart : sizeOf Pod ≤ length edit → isApart controller value ≡ true → applyOf PodPro controller value edit .answer ≡ applyOf Pod controller value edit .answer → ⊥
+  unfolding applyOf selected rowOf table highestModel sizeOf
+  applied-apart long t =
+      by-apart (λ c. applyOf PodPro c value edit .answer ≡ applyOf Pod c value edit .answer → ⊥) controller value t
+      (rw (le-leb 72 (length edit) long)
+      (by (λ (x : Changed). x .answer ≡ change.Refused 17 → ⊥) (leb value 127) _ _
+      (λ _ e. let z : _≡_ {A = ℕ} 3 17 = ap changeNumber e in omega arith) (λ _ e. let z : _≡_ {A = ℕ} 18 17 = ap changeNumber e in omega arith)))
+      (λ above within e.
+      let z : _≡_ {A = ℕ} 3 18 = ap changeNumber (rw (le-leb 72 (length edit) long, lt-leb value 27 above, le-leb value 31 within) at e) in omega arith)
+
+-- and shown back, where 12 has what byte 8 holds.
+shown-as-received : (kind : Kind) (controller : ℕ) → ((v stored : ℕ) → nextFor (rowOf kind controller) v stored ≡ v)
+    → (stored : ℕ) → shownOf (rowOf kind controller) stored ≡ cond (leb stored (rowOf kind controller .highest)) (Value stored) (Refused 40)
+shown-as-received kind controller as-it-is stored =
+    ⊎-elim
+    (λ s. let same : s .0 ≡ stored = sym (as-it-is (s .0) stored) ∙ s .2 .gives in s .1 ∙ (rw (same, le-leb stored _ (rw same at (s .2 .within)))))
+    (λ s. s .0 ∙ (rw (lt-leb stored _ (lt-of-not-le (λ h. s .1 stored h (as-it-is stored stored))))))
+    (row-shown kind controller (formed kind controller) stored)
+
+module _ (controller : ℕ) (edit : List ℕ) where
+  pub shown-alike : isApart controller (getD edit 8 0) ≡ false → backOf PodPro controller edit ≡ backOf Pod controller edit
+  unfolding backOf selected rowOf table highestModel sizeOf nextFor numberFor numberBy
+  shown-alike =
+      by-row (λ c. isApart c (getD edit 8 0) ≡ false → backOf PodPro c edit ≡ backOf Pod c edit) controller
+      (λ t. absurd (false≢true (sym t)))
+      (λ t.
+      let n = readAt 1 8 edit in
+      let is-n : n ≡ getD edit 8 0 = omega arith in
+      let on : (kind : Kind) → ((v stored : ℕ) → nextFor (rowOf kind 12) v stored ≡ v) → shownOf (rowOf kind 12) n ≡ cond (leb n (rowOf kind 12 .highest)) (Value n) (Refused 40) = λ kind s. shown-as-received kind 12 s n in
+      rw (on PodPro (λ v stored. omega arith), on Pod (λ v stored. omega arith), is-n, same-range (getD edit 8 0) t))
+      (λ same t. rw same)
+
+  pub shown-apart : sizeOf Pod ≤ length edit → isApart controller (getD edit 8 0) ≡ true → backOf PodPro controller edit ≡ backOf Pod controller edit → ⊥
+  unfolding backOf selected rowOf table highestModel sizeOf nextFor numberFor numberBy
+  shown-apart long t =
+      by-apart (λ c. backOf PodPro c edit ≡ backOf Pod c edit → ⊥) controller (getD edit 8 0) t
+      (rw (le-leb 72 (length edit) long)
+      (λ e. ⊎-elim
+      (λ s. let z : _≡_ {A = ℕ} 0 17 = ap refusalOf (sym (s .1) ∙ e) in omega arith)
+      (λ s. let z : _≡_ {A = ℕ} 40 17 = ap refusalOf (sym (s .0) ∙ e) in omega arith)
+      (row-shown PodPro 9 (formed PodPro 9) (readAt 1 35 edit))))
+      (λ above within e.
+      let n = readAt 1 8 edit in
+      let is-n : n ≡ getD edit 8 0 = omega arith in
+      let pro = shown-as-received PodPro 12 (λ v stored. omega arith) n in
+      let pod = shown-as-received Pod 12 (λ v stored. omega arith) n in
+      let z : _≡_ {A = ℕ} 0 40 = ap refusalOf (rw (le-leb 72 (length edit) long, pro, pod, is-n, lt-leb (getD edit 8 0) 27 above, le-leb (getD edit 8 0) 31 within) at e) in
+      omega arith)
+
+either-way : {A : Type 0} (b : Bool) (x y z : A) → (b ≡ true → x ≡ y) → cond b x z ≡ cond b y z
+either-way true x y z same = same refl
+either-way false x y z same = refl
+
+module _ (settings : Settings) where
+  -- A message that is not apart does the same,
+  pub message-alike : (player : ℕ) (held : Held) (m : Message) → Alike m → messageDoes PodPro settings player held m ≡ messageDoes Pod settings player held m
+  unfolding messageDoes channelDoes isProgramChange takesProgramChange sizeOf
+  message-alike player held (SysEx body) alike = sysex-alike settings player held body alike
+  message-alike player held TooLong alike = refl
+  message-alike player held (Channel status first second) alike =
+      ap (tested (channelTests Pod settings status first) (refusing held))
+      (either-way (isController status) (controllerDoes PodPro player first second held) (controllerDoes Pod player first second held) (programChangeDoes Pod player first held)
+      (λ is. let same = applied-alike first second (bytesIn Pod player Edit held) (alike is) in rw same))
+
+  happening-alike : (held : Held) (s : Socket) (h : Happening) → AlikeAt h
+      → happeningDoes (boxRules (numberOf PodPro) settings) held s h ≡ happeningDoes (boxRules (numberOf Pod) settings) held s h
+  unfolding kindOf numberOf
+  happening-alike held s Nothing alike = refl
+  happening-alike held s Cut alike = refl
+  happening-alike held s (Finished m) alike = message-alike (socketNumber s) held m alike
+
+  -- so that a byte call leaves the same, in every buffer, on every socket and at every receiver, whatever is lent,
+  pub take-alike : (socket : ℕ) (receiver : Receiver) (byte : ℕ) (held : Held) (receive reply : List ℕ)
+      → AlikeAt (happeningOf (stepOf (limit Pod) receiver byte .event) receive)
+      → takeOf (numberOf PodPro) settings socket receiver byte held receive reply ≡ takeOf (numberOf Pod) settings socket receiver byte held receive reply
+  unfolding byteOf stepDoes isKind kindOf numberOf sizeOf
+  take-alike socket receiver byte held receive reply alike = rw (happening-alike held (socketOf socket) _ alike)
+
+  -- and so does a message that is handed over whole.
+  pub whole-alike : (message : List ℕ) (held : Held) (reply : List ℕ) → isIdentity (bodyOf message) ≡ false
+      → wholeOf (numberOf PodPro) settings message held reply ≡ wholeOf (numberOf Pod) settings message held reply
+  unfolding directOf isKind kindOf numberOf sizeOf
+  whole-alike message held reply other = rw (handed-alike settings panel held message other)
+
+  -- A list of moves none of which is apart:
+  list-alike : (moves : List Move) (held : Held) → AlikeMoves moves
+      → (let fs = handing (handsOf settings (Moves moves)) in
+      (saidsOf (boxRules (numberOf PodPro) settings) held fs ≡ saidsOf (boxRules (numberOf Pod) settings) held fs)
+      × (heldAfter (boxRules (numberOf PodPro) settings) held fs ≡ heldAfter (boxRules (numberOf Pod) settings) held fs))
+  unfolding kindOf numberOf
+  list-alike [] held alike = (refl, refl)
+  list-alike (move ∷ moves) held alike =
+      let same = message-alike panel held (moveMessage settings move) (λ _. alike .0) in
+      let rest = list-alike moves (messageDoes Pod settings panel held (moveMessage settings move) .held) (alike .1) in
+      (rw (same, rest .0), ap (λ (o : Outcome). heldAfter (boxRules (numberOf PodPro) settings) (o .held) (handing (handsOf settings (Moves moves)))) same ∙ rest .1)
+
+  pub moves-alike : (moves : List Move) (held : Held) (numbers : List ℕ) → AlikeMoves moves
+      → movesOf (numberOf PodPro) settings moves held numbers ≡ movesOf (numberOf Pod) settings moves held numbers
+  unfolding directOf isKind kindOf numberOf sizeOf
+  moves-alike moves held numbers alike = let same = list-alike moves held alike in rw (same .0, same .1)
