@@ -12,11 +12,10 @@ use Rattle.ground.specs.Lists.{column}
 use Rattle.ground.proofs.Computed.{column-at, every-at}
 use Rattle.kinds.specs.declared.Kind.{Kind}
 use Rattle.kinds.specs.declared.Kind.the-variants.{Pod}
-use Rattle.kinds.specs.Kinds.{highestModel}
 use Rattle.controls.specs.declared.Row.{Row}
 use Rattle.controls.specs.declared.Reading.the-variants.{Value, Refused}
 use Rattle.controls.specs.Formulas.{m-upper, m-lower, v×50, v×256/42, v×25, numberBy, numberFor}
-use Rattle.controls.specs.Table.{rows, table, rowOf}
+use Rattle.controls.specs.Table.{table, rowOf}
 use Rattle.controls.specs.Sheet.{columns, onSheet, sheetRule}
 use Rattle.controls.specs.Scaling.{scaleTests, scaleOf}
 use Rattle.controls.specs.Private.{SaneForSome}
@@ -38,7 +37,7 @@ leastOf formula =
     0))
 
 least-of : (kind : Kind) (controller : ℕ) → rowOf kind controller .least ≡ leastOf (rowOf kind controller .formula)
-unfolding table highestModel rowOf
+unfolding table rowOf
 least-of kind controller = eqb-true _ _ (fact (λ _ r. eqb (r .least) (leastOf (r .formula))) refl kind controller)
 
 -- so a row's number goes by its formula
@@ -63,7 +62,7 @@ abbrev scales : Row → Bool
 scales r = not (eqb (r .width) 0) && (not (eqb (r .formula) m-upper) && (not (eqb (r .formula) m-lower) && leb 127 (r .highest)))
 
 pub scaled-in : (c v : ℕ) → c ≤ 5 → v ≤ 127 → scaleOf Pod (getD columns c 0) v ≡ Value (onSheet c v)
-unfolding scaleOf table highestModel rowOf
+unfolding scaleOf table rowOf
 scaled-in c v h l =
     let r = rowOf Pod (getD columns c 0) in
     let listed = both (not (eqb (r .width) 0)) _ (every-at (λ k. scales (rowOf Pod (getD columns k 0))) 6 refl c (omega arith)) in

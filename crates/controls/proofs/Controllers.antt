@@ -12,7 +12,7 @@ use Rattle.ground.specs.Tests.{tested, AllHold, FirstToFail}
 use Rattle.ground.proofs.InOrder.{tested-failed, tested-passed, tested-cases, tested-exactly, tested-map, first-named}
 use Rattle.kinds.specs.declared.Kind.{Kind}
 use Rattle.kinds.specs.declared.Kind.the-variants.{Pod, BassPod}
-use Rattle.kinds.specs.Kinds.{sizeOf, highestModel}
+use Rattle.kinds.specs.Kinds.{sizeOf}
 use Rattle.controls.specs.declared.Row.{Row}
 use Rattle.controls.specs.declared.Change.the-variants.{Applied, Refused}
 use Rattle.controls.specs.Answers.{changeNumber}
@@ -103,7 +103,7 @@ only-19-selects controller value edit other = only-its-bytes Pod controller valu
 
 -- On a Bass POD byte 46 plays no part: every controller is selected, whatever stands there,
 pub bass-selected : (controller : ℕ) (edit : List ℕ) → selectedTest (rowOf BassPod controller) edit .holds ≡ true
-unfolding table highestModel selected
+unfolding table selected
 bass-selected controller edit = rw (row-found BassPod (λ _ r. eqb (r .effect) none) (λ _. refl) refl controller)
 
 -- and applying never answers 19.
@@ -118,7 +118,7 @@ flanger-effect byte46 f = ⊎-elim (λ e. rw e) (λ f. ⊎-elim (λ e. rw e) (λ
 
 rotary-row : (controller : ℕ) → RotaryMove controller
     → (rowOf Pod controller .effect ≡ rotary) × (rowOf Pod controller .highest ≡ 127) × (1 ≤ rowOf Pod controller .width)
-unfolding rowOf table highestModel
+unfolding rowOf table
 rotary-row controller m =
     ⊎-elim (λ e. rw e (refl, refl, omega arith)) (λ m. ⊎-elim (λ e. rw e (refl, refl, omega arith)) (λ e. rw e (refl, refl, omega arith)) m) m
 

@@ -1,19 +1,17 @@
 -- Which controllers are in the table of a kind, and that no other is.
 use Prim.Native.Nat.{ℕ, _<_}
-use mathlib.Core.Bool.{Bool, true, false, cond}
-use mathlib.Core.List.{List, [], _∷_}
+use mathlib.Core.Bool.{Bool, true, cond}
+use mathlib.Core.List.{[], _∷_}
 use mathlib.Core.Path.{_≡_, refl}
 use lib.Dec.{eqb, leb}
 use lib.ListN.{length, drop}
 use borrow.Author.Tests.{eqb-true, lt-leb}
-use Rattle.ground.proofs.Tests.{both, by}
+use Rattle.ground.proofs.Tests.{by}
 use Rattle.kinds.specs.declared.Kind.{Kind}
 use Rattle.kinds.specs.declared.Kind.the-variants.{Pod, BassPod, PodPro}
 use Rattle.kinds.proofs.AnyKind.{at-kind}
-use Rattle.kinds.specs.Kinds.{highestModel}
 use Rattle.controls.specs.declared.Row.{Row}
-use Rattle.controls.specs.Table.{Entry, find, unlisted, rows, table, rowOf}
-use Rattle.controls.specs.Refusals.{listedTest}
+use Rattle.controls.specs.Table.{unlisted, table, rows, rowOf}
 use Rattle.controls.specs.Meaning.{controllersOf}
 use Rattle.controls.proofs.Rows.{allPass, row-found}
 

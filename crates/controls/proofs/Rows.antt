@@ -85,11 +85,11 @@ module _ (kind : Kind) (controller : ℕ) where
       (leb-true _ _ (p .0), eqb-true _ _ (q .0), eqb-true _ _ (q .1))
 
   pub whole-upper : eqb (rowOf kind controller .formula) m-upper ≡ true → Whole (rowOf kind controller)
-  unfolding table highestModel
+  unfolding table
   whole-upper = wholes m-upper refl
 
   pub whole-lower : eqb (rowOf kind controller .formula) m-lower ≡ true → Whole (rowOf kind controller)
-  unfolding table highestModel
+  unfolding table
   whole-lower = wholes m-lower refl
 
   pub row-sane : Sane kind (rowOf kind controller)
@@ -117,12 +117,12 @@ module _ (kind : Kind) (controller : ℕ) where
 
   -- a shared byte is not byte 46
   pub shared-beyond : eqb (rowOf kind controller .effect) none ≡ false → 46 < rowOf kind controller .place
-  unfolding table highestModel
+  unfolding table
   shared-beyond e = ltb-true _ _ (rw e at (fact (λ _ r. cond (eqb (r .effect) none) true (ltb 46 (r .place))) refl kind controller))
 
 -- of a POD's controllers only 19 has byte 46
 pub beside-46 : (controller : ℕ) → (controller ≡ 19 → ⊥) → Outside (rowOf Pod controller .width) (rowOf Pod controller .place) 46
-unfolding table highestModel
+unfolding table
 beside-46 controller other =
     let beside : ℕ → Row → Bool = λ k r. cond (eqb k 19) true (cond (ltb 46 (r .place)) true (leb (r .place + r .width) 46)) in
     let none-beside : (k : ℕ) → beside k unlisted ≡ true = λ k. by (λ x. x ≡ true) (eqb k 19) true true (λ _. refl) (λ _. refl) in
@@ -159,7 +159,7 @@ module _ (controller : ℕ) where
 
 -- A POD Pro's controllers are a POD's, but for 9 and 12.
 pub as-on-pod : (controller : ℕ) → (controller ≡ 9 → ⊥) → (controller ≡ 12 → ⊥) → rowOf PodPro controller ≡ rowOf Pod controller
-unfolding rowOf table highestModel
+unfolding rowOf table
 as-on-pod controller not-9 not-12 =
     same-rows controller (λ n. eqb n 9 || eqb n 12) PodPro Pod table refl (rw (ne-eqb controller 9 not-9, ne-eqb controller 12 not-12))
 

@@ -11,7 +11,6 @@ use borrow.Author.Tests.{leb-true, ltb-true}
 use Rattle.ground.proofs.Tests.{either}
 use Rattle.ground.proofs.InOrder.{tested-map}
 use Rattle.kinds.specs.declared.Kind.the-variants.{BassPod}
-use Rattle.kinds.specs.Kinds.{highestModel}
 use Rattle.controls.specs.declared.Row.{Row}
 use Rattle.controls.specs.Formulas.{nextFor}
 use Rattle.controls.specs.Table.{table, rowOf}
@@ -38,7 +37,7 @@ put-beside (suc width) place k byte number edit o =
 
 -- no controller of a Bass POD has byte 46
 beside : (controller : ℕ) → Outside (rowOf BassPod controller .width) (rowOf BassPod controller .place) 46
-unfolding table highestModel
+unfolding table
 beside controller =
     let apart : ℕ → Row → Bool = λ _ r. cond (ltb 46 (r .place)) true (leb (r .place + r .width) 46) in
     ⊎-elim (λ before. inl (ltb-true _ _ before)) (λ behind. inr (leb-true _ _ behind)) (either _ _ (row-found BassPod apart (λ _. refl) refl controller))

@@ -48,10 +48,10 @@ use Rattle.podbox.specs.Whole.{bodyOf, messageTests, messageOrder, handedDoes}
 use Rattle.podbox.specs.Box.{Moves, limit, handsOf, panel, boxRules, takeOf, wholeOf, movesOf}
 use Rattle.demands.specs.EitherUnit.{isApart, Alike, AlikeAt, AlikeMoves}
 
--- A message is judged alike, and so `why` says the same of it, whatever it is.
-pub judged-alike : (settings : Settings) (message : List ℕ) → messageOrder PodPro settings message ≡ messageOrder Pod settings message
+-- A message is judged the same, and so `why` says the same of it, whatever it is.
+pub judged-same : (settings : Settings) (message : List ℕ) → messageOrder PodPro settings message ≡ messageOrder Pod settings message
 unfolding messageOrder hasForm furtherTests bodyLength sizeOf hasSpare deviceOf
-judged-alike settings message = refl
+judged-same settings message = refl
 
 body-judged : (settings : Settings) (body : List ℕ) → judgeOf PodPro settings body ≡ judgeOf Pod settings body
 unfolding judgeOf hasForm furtherTests bodyLength sizeOf hasSpare deviceOf
@@ -73,17 +73,17 @@ NotIdentify order.StoreEdit = Unit {0}
 NotIdentify order.StoreAll = Unit {0}
 NotIdentify (order.Refused check) = Unit {0}
 
-order-alike : (settings : Settings) (player : ℕ) (o : Order) (body : List ℕ) (held : Held) → NotIdentify o
+order-same : (settings : Settings) (player : ℕ) (o : Order) (body : List ℕ) (held : Held) → NotIdentify o
     → orderDoes PodPro settings player o body held ≡ orderDoes Pod settings player o body held
 unfolding orderDoes sizeOf hasSpare deviceOf
-order-alike settings player (order.Identify cc) body held not = absurd not
-order-alike settings player (order.SendProgram p) body held not = refl
-order-alike settings player order.SendEdit body held not = refl
-order-alike settings player order.SendAll body held not = refl
-order-alike settings player (order.StoreProgram p) body held not = refl
-order-alike settings player order.StoreEdit body held not = refl
-order-alike settings player order.StoreAll body held not = refl
-order-alike settings player (order.Refused check) body held not = refl
+order-same settings player (order.Identify cc) body held not = absurd not
+order-same settings player (order.SendProgram p) body held not = refl
+order-same settings player order.SendEdit body held not = refl
+order-same settings player order.SendAll body held not = refl
+order-same settings player (order.StoreProgram p) body held not = refl
+order-same settings player order.StoreEdit body held not = refl
+order-same settings player order.StoreAll body held not = refl
+order-same settings player (order.Refused check) body held not = refl
 
 -- what is no identity request is not judged to be one
 form-order : (opcode type number : ℕ) → NotIdentify (orderOf opcode type number)
@@ -99,17 +99,17 @@ not-identify tests body other = rw other (tested-cases NotIdentify tests order.R
 
 module _ (settings : Settings) (player : ℕ) (held : Held) where
   -- Every SysEx that is not an identity request does the same,
-  pub sysex-alike : (body : List ℕ) → isIdentity body ≡ false → bodyDoes PodPro settings player body held ≡ bodyDoes Pod settings player body held
+  pub sysex-same : (body : List ℕ) → isIdentity body ≡ false → bodyDoes PodPro settings player body held ≡ bodyDoes Pod settings player body held
   unfolding judgeOf
-  sysex-alike body other =
-      rw (body-judged settings body) (order-alike settings player (judgeOf Pod settings body) body held (not-identify (testsOf Pod settings body) body other))
+  sysex-same body other =
+      rw (body-judged settings body) (order-same settings player (judgeOf Pod settings body) body held (not-identify (testsOf Pod settings body) body other))
 
   -- and so it does where it is handed over whole
-  pub handed-alike : (message : List ℕ) → isIdentity (bodyOf message) ≡ false → handedDoes PodPro settings player message held ≡ handedDoes Pod settings player message held
+  pub handed-same : (message : List ℕ) → isIdentity (bodyOf message) ≡ false → handedDoes PodPro settings player message held ≡ handedDoes Pod settings player message held
   unfolding messageOrder
-  handed-alike message other =
-      rw (judged-alike settings message)
-      (order-alike settings player (messageOrder Pod settings message) (bodyOf message) held (not-identify (messageTests Pod settings message) (bodyOf message) other))
+  handed-same message other =
+      rw (judged-same settings message)
+      (order-same settings player (messageOrder Pod settings message) (bodyOf message) held (not-identify (messageTests Pod settings message) (bodyOf message) other))
 
 -- where 12 has a value that is not apart, it is in range on both or on neither
 in-range : (value : ℕ) (pod pro : Bool) → leb value 27 ≡ pod → leb value 31 ≡ pro → isApart 12 value ≡ false → pro ≡ pod
@@ -135,9 +135,9 @@ by-row P controller nine twelve other =
     choose false false e f = other (as-on-pod controller (eqb-false controller 9 e) (eqb-false controller 12 f))
 
 -- The controllers of the two differ by 9 and by 12 above 27 alone: scaled,
-pub scaled-alike : (controller value : ℕ) → isApart controller value ≡ false → scaleOf PodPro controller value ≡ scaleOf Pod controller value
+pub scaled-same : (controller value : ℕ) → isApart controller value ≡ false → scaleOf PodPro controller value ≡ scaleOf Pod controller value
 unfolding scaleOf rowOf table highestModel numberFor numberBy
-scaled-alike controller value =
+scaled-same controller value =
     by-row (λ c. isApart c value ≡ false → scaleOf PodPro c value ≡ scaleOf Pod c value) controller
     (λ t. absurd (false≢true (sym t)))
     (λ t. rw (same-range value t))
@@ -154,26 +154,26 @@ by-apart P controller value t nine twelve =
     rw (eqb-true controller 12 (p .0)) (twelve (ltb-true 27 value (q .0)) (leb-true value 31 (q .1))))
     (one-of (eqb controller 9) _ t)
 
-pub scaled-apart : (controller value : ℕ) → isApart controller value ≡ true → scaleOf PodPro controller value ≡ scaleOf Pod controller value → ⊥
+pub scaled-differ : (controller value : ℕ) → isApart controller value ≡ true → scaleOf PodPro controller value ≡ scaleOf Pod controller value → ⊥
 unfolding scaleOf rowOf table highestModel
-scaled-apart controller value t =
+scaled-differ controller value t =
     by-apart (λ c. scaleOf PodPro c value ≡ scaleOf Pod c value → ⊥) controller value t
     (by (λ (r : Reading). r ≡ Refused 17 → ⊥) (leb value 127) _ _ (λ _ e. let z : _≡_ {A = ℕ} 0 1 = cc in omega arith) (λ _ e. let z : _≡_ {A = ℕ} 18 17 = ap refusalOf e in omega arith))
     (λ above within e. let z : _≡_ {A = ℕ} 0 18 = ap refusalOf (rw (lt-leb value 27 above, le-leb value 31 within) at e) in omega arith)
 
 -- applied,
 module _ (controller value : ℕ) (edit : List ℕ) where
-  pub applied-alike : isApart controller value ≡ false → applyOf PodPro controller value edit ≡ applyOf Pod controller value edit
+  pub applied-same : isApart controller value ≡ false → applyOf PodPro controller value edit ≡ applyOf Pod controller value edit
   unfolding applyOf storeRow nextFor numberFor numberBy rowOf table highestModel sizeOf
-  applied-alike =
+  applied-same =
       by-row (λ c. isApart c value ≡ false → applyOf PodPro c value edit ≡ applyOf Pod c value edit) controller
       (λ t. absurd (false≢true (sym t)))
       (λ t. rw (same-range value t))
       (λ same t. rw same)
 
-  pub applied-apart : sizeOf Pod ≤ length edit → isApart controller value ≡ true → applyOf PodPro controller value edit .answer ≡ applyOf Pod controller value edit .answer → ⊥
+  pub applied-differ : sizeOf Pod ≤ length edit → isApart controller value ≡ true → applyOf PodPro controller value edit .answer ≡ applyOf Pod controller value edit .answer → ⊥
   unfolding applyOf selected rowOf table highestModel sizeOf
-  applied-apart long t =
+  applied-differ long t =
       by-apart (λ c. applyOf PodPro c value edit .answer ≡ applyOf Pod c value edit .answer → ⊥) controller value t
       (rw (le-leb 72 (length edit) long)
       (by (λ (x : Changed). x .answer ≡ change.Refused 17 → ⊥) (leb value 127) _ _
@@ -191,9 +191,9 @@ shown-as-received kind controller as-it-is stored =
     (row-shown kind controller (formed kind controller) stored)
 
 module _ (controller : ℕ) (edit : List ℕ) where
-  pub shown-alike : isApart controller (getD edit 8 0) ≡ false → backOf PodPro controller edit ≡ backOf Pod controller edit
+  pub shown-same : isApart controller (getD edit 8 0) ≡ false → backOf PodPro controller edit ≡ backOf Pod controller edit
   unfolding backOf selected rowOf table highestModel sizeOf nextFor numberFor numberBy
-  shown-alike =
+  shown-same =
       by-row (λ c. isApart c (getD edit 8 0) ≡ false → backOf PodPro c edit ≡ backOf Pod c edit) controller
       (λ t. absurd (false≢true (sym t)))
       (λ t.
@@ -203,9 +203,9 @@ module _ (controller : ℕ) (edit : List ℕ) where
       rw (on PodPro (λ v stored. omega arith), on Pod (λ v stored. omega arith), is-n, same-range (getD edit 8 0) t))
       (λ same t. rw same)
 
-  pub shown-apart : sizeOf Pod ≤ length edit → isApart controller (getD edit 8 0) ≡ true → backOf PodPro controller edit ≡ backOf Pod controller edit → ⊥
+  pub shown-differ : sizeOf Pod ≤ length edit → isApart controller (getD edit 8 0) ≡ true → backOf PodPro controller edit ≡ backOf Pod controller edit → ⊥
   unfolding backOf selected rowOf table highestModel sizeOf nextFor numberFor numberBy
-  shown-apart long t =
+  shown-differ long t =
       by-apart (λ c. backOf PodPro c edit ≡ backOf Pod c edit → ⊥) controller (getD edit 8 0) t
       (rw (le-leb 72 (length edit) long)
       (λ e. ⊎-elim
@@ -226,48 +226,48 @@ either-way false x y z same = refl
 
 module _ (settings : Settings) where
   -- A message that is not apart does the same,
-  pub message-alike : (player : ℕ) (held : Held) (m : Message) → Alike m → messageDoes PodPro settings player held m ≡ messageDoes Pod settings player held m
+  pub message-same : (player : ℕ) (held : Held) (m : Message) → Alike m → messageDoes PodPro settings player held m ≡ messageDoes Pod settings player held m
   unfolding messageDoes channelDoes isProgramChange takesProgramChange sizeOf
-  message-alike player held (SysEx body) alike = sysex-alike settings player held body alike
-  message-alike player held TooLong alike = refl
-  message-alike player held (Channel status first second) alike =
+  message-same player held (SysEx body) alike = sysex-same settings player held body alike
+  message-same player held TooLong alike = refl
+  message-same player held (Channel status first second) alike =
       ap (tested (channelTests Pod settings status first) (refusing held))
       (either-way (isController status) (controllerDoes PodPro player first second held) (controllerDoes Pod player first second held) (programChangeDoes Pod player first held)
-      (λ is. let same = applied-alike first second (bytesIn Pod player Edit held) (alike is) in rw same))
+      (λ is. let same = applied-same first second (bytesIn Pod player Edit held) (alike is) in rw same))
 
-  happening-alike : (held : Held) (s : Socket) (h : Happening) → AlikeAt h
+  happening-same : (held : Held) (s : Socket) (h : Happening) → AlikeAt h
       → happeningDoes (boxRules (numberOf PodPro) settings) held s h ≡ happeningDoes (boxRules (numberOf Pod) settings) held s h
   unfolding kindOf numberOf
-  happening-alike held s Nothing alike = refl
-  happening-alike held s Cut alike = refl
-  happening-alike held s (Finished m) alike = message-alike (socketNumber s) held m alike
+  happening-same held s Nothing alike = refl
+  happening-same held s Cut alike = refl
+  happening-same held s (Finished m) alike = message-same (socketNumber s) held m alike
 
   -- so that a byte call leaves the same, in every buffer, on every socket and at every receiver, whatever is lent,
-  pub take-alike : (socket : ℕ) (receiver : Receiver) (byte : ℕ) (held : Held) (receive reply : List ℕ)
+  pub take-same : (socket : ℕ) (receiver : Receiver) (byte : ℕ) (held : Held) (receive reply : List ℕ)
       → AlikeAt (happeningOf (stepOf (limit Pod) receiver byte .event) receive)
       → takeOf (numberOf PodPro) settings socket receiver byte held receive reply ≡ takeOf (numberOf Pod) settings socket receiver byte held receive reply
   unfolding byteOf stepDoes isKind kindOf numberOf sizeOf
-  take-alike socket receiver byte held receive reply alike = rw (happening-alike held (socketOf socket) _ alike)
+  take-same socket receiver byte held receive reply alike = rw (happening-same held (socketOf socket) _ alike)
 
   -- and so does a message that is handed over whole.
-  pub whole-alike : (message : List ℕ) (held : Held) (reply : List ℕ) → isIdentity (bodyOf message) ≡ false
+  pub whole-same : (message : List ℕ) (held : Held) (reply : List ℕ) → isIdentity (bodyOf message) ≡ false
       → wholeOf (numberOf PodPro) settings message held reply ≡ wholeOf (numberOf Pod) settings message held reply
   unfolding directOf isKind kindOf numberOf sizeOf
-  whole-alike message held reply other = rw (handed-alike settings panel held message other)
+  whole-same message held reply other = rw (handed-same settings panel held message other)
 
   -- A list of moves none of which is apart:
-  list-alike : (moves : List Move) (held : Held) → AlikeMoves moves
+  list-same : (moves : List Move) (held : Held) → AlikeMoves moves
       → (let fs = handing (handsOf settings (Moves moves)) in
       (saidsOf (boxRules (numberOf PodPro) settings) held fs ≡ saidsOf (boxRules (numberOf Pod) settings) held fs)
       × (heldAfter (boxRules (numberOf PodPro) settings) held fs ≡ heldAfter (boxRules (numberOf Pod) settings) held fs))
   unfolding kindOf numberOf
-  list-alike [] held alike = (refl, refl)
-  list-alike (move ∷ moves) held alike =
-      let same = message-alike panel held (moveMessage settings move) (λ _. alike .0) in
-      let rest = list-alike moves (messageDoes Pod settings panel held (moveMessage settings move) .held) (alike .1) in
+  list-same [] held alike = (refl, refl)
+  list-same (move ∷ moves) held alike =
+      let same = message-same panel held (moveMessage settings move) (λ _. alike .0) in
+      let rest = list-same moves (messageDoes Pod settings panel held (moveMessage settings move) .held) (alike .1) in
       (rw (same, rest .0), ap (λ (o : Outcome). heldAfter (boxRules (numberOf PodPro) settings) (o .held) (handing (handsOf settings (Moves moves)))) same ∙ rest .1)
 
-  pub moves-alike : (moves : List Move) (held : Held) (numbers : List ℕ) → AlikeMoves moves
+  pub moves-same : (moves : List Move) (held : Held) (numbers : List ℕ) → AlikeMoves moves
       → movesOf (numberOf PodPro) settings moves held numbers ≡ movesOf (numberOf Pod) settings moves held numbers
   unfolding directOf isKind kindOf numberOf sizeOf
-  moves-alike moves held numbers alike = let same = list-alike moves held alike in rw (same .0, same .1)
+  moves-same moves held numbers alike = let same = list-same moves held alike in rw (same .0, same .1)

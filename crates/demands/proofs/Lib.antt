@@ -14,6 +14,7 @@ pub mod Byte46
 pub mod EditAlone
 pub mod ProgramChange
 pub mod EitherUnit
+pub mod AmpModel
 pub mod Reasons
 pub mod Sockets
 pub mod ManyMoves

@@ -2,7 +2,6 @@
 use native.Mathlib.Omega.{arith}
 use Rattle.ground.proofs.Tests.{tests}
 use Rattle.kinds.specs.declared.Kind.the-variants.{Pod}
-use Rattle.kinds.specs.Kinds.{highestModel}
 use Rattle.controls.specs.Formulas.{numberBy}
 use Rattle.controls.specs.Table.{table, rowOf}
 use Rattle.controls.proofs.Columns.{by-least, at-formula, at-controller}
@@ -11,7 +10,7 @@ use Rattle.controls.proofs.formulas.number_for.Statement.{statement}
 use Rattle.controls.proofs.formulas.number_for.Tie as tie
 
 pub number-for-spec : {M : Type 1} → statement M
-unfolding numberBy rowOf table highestModel
+unfolding numberBy rowOf table
 number-for-spec =
     tie.close
     (tie.spec
