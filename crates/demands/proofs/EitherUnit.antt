@@ -1,5 +1,5 @@
 -- What a POD and a POD Pro do alike: every SysEx that is not an identity request, on a socket and handed over whole, and every controller but those that are apart.
-use Prim.Native.Nat.{ℕ, _≤_, _<_}
+use Prim.Native.Nat.{ℕ, _≤_, _<_, max}
 use mathlib.Core.Bool.{Bool, true, false, false≢true, cond}
 use mathlib.Core.List.{List, [], _∷_}
 use mathlib.Core.Logic.{⊎-elim}
@@ -9,7 +9,7 @@ use native.Mathlib.Omega.{arith}
 use lib.Dec.{eqb, leb, ltb}
 use lib.ListN.{length, getD}
 use borrow.Author.Tests.{eqb-true, eqb-false, leb-true, leb-false, ltb-true, le-leb, lt-leb, lt-ltb}
-use Rattle.ground.specs.Tests.{Test, tested}
+use Rattle.ground.specs.Tests.{Test, AllHold, tested}
 use Rattle.ground.proofs.InOrder.{tested-cases}
 use Rattle.ground.proofs.Tests.{both, one-of, by}
 use Rattle.kinds.specs.declared.Kind.{Kind}
@@ -44,9 +44,9 @@ use Rattle.sysex.specs.Carrying.{Outcome, refusing, orderDoes, bodyDoes}
 use Rattle.podbox.specs.Messages.{isController, isProgramChange, channelTests, controllerDoes, programChangeDoes, channelDoes, messageDoes}
 use Rattle.podbox.specs.declared.Move.{Move}
 use Rattle.podbox.specs.Moves.{moveMessage}
-use Rattle.podbox.specs.Whole.{bodyOf, messageTests, messageOrder, handedDoes}
+use Rattle.podbox.specs.Whole.{isFramed, bodyOf, messageTests, messageOrder, handedDoes}
 use Rattle.podbox.specs.Box.{Moves, limit, handsOf, panel, boxRules, takeOf, wholeOf, movesOf}
-use Rattle.demands.specs.EitherUnit.{isApart, Alike, AlikeAt, AlikeMoves}
+use Rattle.demands.specs.EitherUnit.{isApart, isIdentityRequest, Alike, AlikeAt, AlikeMoves}
 
 -- A message is judged the same, and so `why` says the same of it, whatever it is.
 pub judged-same : (settings : Settings) (message : List ℕ) → messageOrder PodPro settings message ≡ messageOrder Pod settings message
@@ -93,23 +93,25 @@ form-order opcode type number =
     (λ _. by NotIdentify (eqb type program) _ _ (λ _. tt) (λ _. by NotIdentify (eqb type edit) _ _ (λ _. tt) (λ _. tt)))
     (λ _. by NotIdentify (eqb type program) _ _ (λ _. tt) (λ _. by NotIdentify (eqb type edit) _ _ (λ _. tt) (λ _. tt)))
 
-not-identify : (tests : List (Test Check)) (body : List ℕ) → isIdentity body ≡ false → NotIdentify (judgedBy tests (bodyOrder body))
+not-identify : (tests : List (Test Check)) (body : List ℕ) → (AllHold tests → isIdentity body ≡ false) → NotIdentify (judgedBy tests (bodyOrder body))
 unfolding bodyOrder
-not-identify tests body other = rw other (tested-cases NotIdentify tests order.Refused (formOrder body) (λ _. form-order _ _ _) (λ _ _. tt))
+not-identify tests body other = tested-cases NotIdentify tests order.Refused (bodyOrder body) (λ all. rw (other all) (form-order _ _ _)) (λ _ _. tt)
 
 module _ (settings : Settings) (player : ℕ) (held : Held) where
   -- Every SysEx that is not an identity request does the same,
   pub sysex-same : (body : List ℕ) → isIdentity body ≡ false → bodyDoes PodPro settings player body held ≡ bodyDoes Pod settings player body held
   unfolding judgeOf
   sysex-same body other =
-      rw (body-judged settings body) (order-same settings player (judgeOf Pod settings body) body held (not-identify (testsOf Pod settings body) body other))
+      rw (body-judged settings body) (order-same settings player (judgeOf Pod settings body) body held (not-identify (testsOf Pod settings body) body (λ _. other)))
 
   -- and so it does where it is handed over whole
-  pub handed-same : (message : List ℕ) → isIdentity (bodyOf message) ≡ false → handedDoes PodPro settings player message held ≡ handedDoes Pod settings player message held
+  pub handed-same : (message : List ℕ) → isIdentityRequest message ≡ false → handedDoes PodPro settings player message held ≡ handedDoes Pod settings player message held
   unfolding messageOrder
   handed-same message other =
       rw (judged-same settings message)
-      (order-same settings player (messageOrder Pod settings message) (bodyOf message) held (not-identify (messageTests Pod settings message) (bodyOf message) other))
+      (order-same settings player (messageOrder Pod settings message) (bodyOf message) held
+      (not-identify (messageTests Pod settings message) (bodyOf message)
+      (λ all. let framed = both (isFramed message) (hasForm Pod (bodyOf message)) (all .1 .0) .0 in rw framed at other)))
 
 -- where 12 has a value that is not apart, it is in range on both or on neither
 in-range : (value : ℕ) (pod pro : Bool) → leb value 27 ≡ pod → leb value 31 ≡ pro → isApart 12 value ≡ false → pro ≡ pod
@@ -190,21 +192,26 @@ shown-as-received kind controller as-it-is stored =
     (λ s. s .0 ∙ (rw (lt-leb stored _ (lt-of-not-le (λ h. s .1 stored h (as-it-is stored stored))))))
     (row-shown kind controller (formed kind controller) stored)
 
+model-shown : (edit : List ℕ) → (let model = getD edit 8 0 in
+    (shownOf (rowOf Pod 12) (readAt 1 8 edit) ≡ cond (leb model 27) (Value model) (Refused 40))
+    × (shownOf (rowOf PodPro 12) (readAt 1 8 edit) ≡ cond (leb model 31) (Value model) (Refused 40)))
+unfolding rowOf table highestModel nextFor numberFor numberBy
+model-shown edit =
+    let model : readAt 1 8 edit ≡ getD edit 8 0 = omega arith in
+    let as-it-is : (v stored : ℕ) → max v 0 ≡ v = λ v stored. omega arith in
+    (rw model (shown-as-received Pod 12 as-it-is (getD edit 8 0)), rw model (shown-as-received PodPro 12 as-it-is (getD edit 8 0)))
+
 module _ (controller : ℕ) (edit : List ℕ) where
   pub shown-same : isApart controller (getD edit 8 0) ≡ false → backOf PodPro controller edit ≡ backOf Pod controller edit
-  unfolding backOf selected rowOf table highestModel sizeOf nextFor numberFor numberBy
+  unfolding backOf selected rowOf table highestModel sizeOf
   shown-same =
       by-row (λ c. isApart c (getD edit 8 0) ≡ false → backOf PodPro c edit ≡ backOf Pod c edit) controller
       (λ t. absurd (false≢true (sym t)))
-      (λ t.
-      let n = readAt 1 8 edit in
-      let is-n : n ≡ getD edit 8 0 = omega arith in
-      let on : (kind : Kind) → ((v stored : ℕ) → nextFor (rowOf kind 12) v stored ≡ v) → shownOf (rowOf kind 12) n ≡ cond (leb n (rowOf kind 12 .highest)) (Value n) (Refused 40) = λ kind s. shown-as-received kind 12 s n in
-      rw (on PodPro (λ v stored. omega arith), on Pod (λ v stored. omega arith), is-n, same-range (getD edit 8 0) t))
+      (λ t. rw (model-shown edit .1, model-shown edit .0, same-range (getD edit 8 0) t))
       (λ same t. rw same)
 
   pub shown-differ : sizeOf Pod ≤ length edit → isApart controller (getD edit 8 0) ≡ true → backOf PodPro controller edit ≡ backOf Pod controller edit → ⊥
-  unfolding backOf selected rowOf table highestModel sizeOf nextFor numberFor numberBy
+  unfolding backOf selected rowOf table highestModel sizeOf
   shown-differ long t =
       by-apart (λ c. backOf PodPro c edit ≡ backOf Pod c edit → ⊥) controller (getD edit 8 0) t
       (rw (le-leb 72 (length edit) long)
@@ -213,11 +220,8 @@ module _ (controller : ℕ) (edit : List ℕ) where
       (λ s. let z : _≡_ {A = ℕ} 40 17 = ap refusalOf (sym (s .0) ∙ e) in omega arith)
       (row-shown PodPro 9 (formed PodPro 9) (readAt 1 35 edit))))
       (λ above within e.
-      let n = readAt 1 8 edit in
-      let is-n : n ≡ getD edit 8 0 = omega arith in
-      let pro = shown-as-received PodPro 12 (λ v stored. omega arith) n in
-      let pod = shown-as-received Pod 12 (λ v stored. omega arith) n in
-      let z : _≡_ {A = ℕ} 0 40 = ap refusalOf (rw (le-leb 72 (length edit) long, pro, pod, is-n, lt-leb (getD edit 8 0) 27 above, le-leb (getD edit 8 0) 31 within) at e) in
+      let apart = rw (le-leb 72 (length edit) long, model-shown edit .1, model-shown edit .0, lt-leb (getD edit 8 0) 27 above, le-leb (getD edit 8 0) 31 within) at e in
+      let z : _≡_ {A = ℕ} 0 40 = ap refusalOf apart in
       omega arith)
 
 either-way : {A : Type 0} (b : Bool) (x y z : A) → (b ≡ true → x ≡ y) → cond b x z ≡ cond b y z
@@ -250,7 +254,7 @@ module _ (settings : Settings) where
   take-same socket receiver byte held receive reply alike = rw (happening-same held (socketOf socket) _ alike)
 
   -- and so does a message that is handed over whole.
-  pub whole-same : (message : List ℕ) (held : Held) (reply : List ℕ) → isIdentity (bodyOf message) ≡ false
+  pub whole-same : (message : List ℕ) (held : Held) (reply : List ℕ) → isIdentityRequest message ≡ false
       → wholeOf (numberOf PodPro) settings message held reply ≡ wholeOf (numberOf Pod) settings message held reply
   unfolding directOf isKind kindOf numberOf sizeOf
   whole-same message held reply other = rw (handed-same settings panel held message other)

@@ -10,10 +10,15 @@ use Rattle.sockets.specs.Framer.{Message, SysEx, TooLong, Channel, Happening, N
 use Rattle.sysex.specs.Forms.{isIdentity}
 use Rattle.podbox.specs.declared.Move.{Move}
 use Rattle.podbox.specs.Messages.{isController}
+use Rattle.podbox.specs.Whole.{isFramed, bodyOf}
 
 -- 9, and 12 with an amp model that the POD Pro alone knows: by these, and no others, the controllers of the two differ
 abbrev pub isApart : ℕ → ℕ → Bool
 isApart controller value = eqb controller 9 || (eqb controller 12 && (ltb (highestModel Pod) value && leb value (highestModel PodPro)))
+
+-- an identity request, F7 included, as it is handed over whole
+abbrev pub isIdentityRequest : List ℕ → Bool
+isIdentityRequest message = isFramed message && isIdentity (bodyOf message)
 
 -- every SysEx that is not an identity request, and every channel message but such a controller
 abbrev pub Alike : Message → Type 0
