@@ -8,3 +8,4 @@ pub mod Unwritten
 pub mod FirstAlone
 pub mod Scenes
 pub mod Short
+pub mod Pro

@@ -1,11 +1,12 @@
--- The ways to ask the definitions: for half bytes, and of a kind for a controller, and for a fresh box.
-use Prim.Native.Nat.{ℕ}
-use mathlib.Core.List.{List, [], _∷_}
-use lib.ListN.{replicate, set, take}
+-- The ways to ask the definitions: for half bytes, and of a kind for a controller, and for a fresh box; and what they are asked with.
+use Prim.Native.Nat.{ℕ, _-_}
+use mathlib.Core.List.{List, [], _∷_, _++_}
+use lib.ListN.{length, replicate, set, take}
+use Rattle.ground.specs.Lists.{from}
 use Rattle.kinds.specs.declared.Kind.{Kind}
 use Rattle.kinds.specs.Kinds.{numberOf, sizeOf}
 use Rattle.programs.specs.Memory.{memorySize, markCount}
-use Rattle.programs.specs.Held.{Held, heldOf}
+use Rattle.programs.specs.Held.{Held, heldOf, Target}
 use Rattle.halves.specs.HalfBytes.{split}
 use Rattle.halves.specs.Moving.{movedNumber, joinInto}
 use Rattle.controls.specs.Answers.{refusalOf, valueOf}
@@ -13,8 +14,8 @@ use Rattle.controls.specs.Scaling.{scaleOf}
 use Rattle.controls.specs.Applying.{applyOf}
 use Rattle.controls.specs.Showing.{backOf}
 use Rattle.framing.specs.declared.Receiver.{Receiver}
-use Rattle.framing.specs.Receiver.{fresh}
-use Rattle.sysex.specs.Forms.{longest}
+use Rattle.framing.specs.Receiver.{fresh, openedOf}
+use Rattle.sysex.specs.Forms.{longest, typeFor, ppFor, dumpStart, requestBody, ended}
 use Rattle.sysex.specs.Numbers.{answerNumber, answerLength}
 use Rattle.sysex.specs.Carrying.{Left}
 use Rattle.podbox.specs.Settings.{freshSettings, freshHeld}
@@ -23,9 +24,16 @@ use Rattle.podbox.specs.Box.{takeOf, wholeOf}
 abbrev pub zeros : ℕ → List ℕ
 zeros count = replicate count 0
 
--- the marks of a box, all set
+-- bytes from 100 on, each one more than the one before it
+abbrev pub rising : ℕ → List ℕ
+rising count = from (λ b. b) 100 count
+
+-- the marks of a box, all set, and all but for one
 abbrev pub ones : List ℕ
 ones = replicate markCount 1
+
+abbrev pub but : ℕ → ℕ → List ℕ
+but place mark = set ones place mark
 
 abbrev pub travels : ℕ → List ℕ
 travels byte = split (byte ∷ [])
@@ -38,6 +46,13 @@ module _ (kind : Kind) where
   -- a receive or a reply buffer of zeros, as long as is asked
   abbrev pub blank : List ℕ
   blank = zeros (longest kind)
+
+  -- a dump of zeros of this whole length, and a request
+  abbrev pub ofLength : Target → ℕ → List ℕ
+  ofLength t count = let start = dumpStart kind (typeFor t) (ppFor t) in ended (start ++ zeros (count - 1 - length start))
+
+  abbrev pub asked : Target → List ℕ
+  asked t = ended (requestBody kind t)
 
   -- scaling and showing back: the refusal number, and the value
   abbrev pub scaled : ℕ → ℕ → List ℕ
@@ -88,3 +103,15 @@ module _ (kind : Kind) where
 
   abbrev pub replied : List ℕ → List ℕ
   replied message = repliedOn (freshHeld kind) message
+
+-- what a byte F8 gives where a call brings this number, with so many bytes stored and buffers of a kind's lengths
+abbrev pub byteWith : ℕ → ℕ → Kind → List ℕ
+byteWith kindNumber stored lent =
+    answerNumber (takeOf kindNumber freshSettings 0 (openedOf stored 0) 0xF8 (freshHeld lent) (blank lent) (blank lent) .answer) ∷ []
+
+-- and an empty message, and one with nothing lent at all
+abbrev pub handedWith : ℕ → Kind → List ℕ
+handedWith kindNumber lent = answerNumber (wholeOf kindNumber freshSettings [] (freshHeld lent) (blank lent) .answer) ∷ []
+
+abbrev pub nothingLent : ℕ → List ℕ
+nothingLent kindNumber = answerNumber (wholeOf kindNumber freshSettings [] (heldOf [] []) [] .answer) ∷ []

@@ -6,15 +6,12 @@ use Rattle.kinds.specs.declared.Kind.{Kind}
 use Rattle.kinds.specs.declared.Kind.the-variants.{Pod, BassPod}
 use Rattle.kinds.specs.Kinds.{numberOf, sizeOf}
 use Rattle.programs.specs.Memory.{programPlace, editPlace, allSize}
-use Rattle.programs.specs.Held.{heldOf, One, Edit, All}
+use Rattle.programs.specs.Held.{One, Edit, All}
 use Rattle.controls.specs.Applying.{applyOf}
-use Rattle.framing.specs.Receiver.{fresh, openedOf}
+use Rattle.framing.specs.Receiver.{fresh}
 use Rattle.sysex.specs.Forms.{requestBody, dumpBody, identityBody, ended}
-use Rattle.sysex.specs.Numbers.{answerNumber}
-use Rattle.podbox.specs.Settings.{freshSettings, freshHeld}
-use Rattle.podbox.specs.Box.{takeOf, wholeOf}
 use Rattle.cases.specs.Case.{Case, _is_}
-use Rattle.cases.specs.Asking.{zeros, blank, scaled, shown, with, called, heldOn, heldWith, handed, replied}
+use Rattle.cases.specs.Asking.{zeros, blank, scaled, shown, with, called, heldOn, heldWith, handed, replied, byteWith, handedWith, nothingLent}
 
 -- a body with its last byte left out, and with one more
 abbrev pub shorter : List ℕ → List ℕ
@@ -44,18 +41,6 @@ abbrev pub last : ℕ → ℕ → List ℕ
 last program number =
     let held = heldOn BassPod (0xC0 ∷ number ∷ []) fresh (heldWith BassPod (programPlace BassPod program + 79) 7) (blank BassPod) (blank BassPod) in
     getD (held .memory) (editPlace BassPod 0 + 79) 0 ∷ getD (held .memory) (programPlace BassPod program + 79) 0 ∷ []
-
--- what a byte F8 gives where a call brings this number, with so many bytes stored and buffers of a kind's lengths
-abbrev pub byteWith : ℕ → ℕ → Kind → List ℕ
-byteWith kindNumber stored lent =
-    answerNumber (takeOf kindNumber freshSettings 0 (openedOf stored 0) 0xF8 (freshHeld lent) (blank lent) (blank lent) .answer) ∷ []
-
-abbrev pub handedWith : ℕ → Kind → List ℕ
-handedWith kindNumber lent = answerNumber (wholeOf kindNumber freshSettings [] (freshHeld lent) (blank lent) .answer) ∷ []
-
--- and with nothing lent at all
-abbrev pub nothingLent : ℕ → List ℕ
-nothingLent kindNumber = answerNumber (wholeOf kindNumber freshSettings [] (heldOf [] []) [] .answer) ∷ []
 
 -- whole messages
 unfoldable pub forms : List Case
@@ -165,10 +150,11 @@ changes =
 
 unfoldable pub kinds : List Case
 kinds =
-    -- "a kind that is neither gives 32, just before 30"; the lengths and the sound receiver's limits are the kind's own
-    byteWith 2 1 Pod is (32 ∷ []) ∷
-    handedWith 2 Pod is (32 ∷ []) ∷
-    nothingLent 2 is (32 ∷ []) ∷
+    -- "a kind that is neither gives 32, just before 30", and since Req 07 "32 is for none of the three kinds"; the lengths and the sound receiver's limits are the
+    -- kind's own
+    byteWith 3 1 Pod is (32 ∷ []) ∷
+    handedWith 3 Pod is (32 ∷ []) ∷
+    nothingLent 3 is (32 ∷ []) ∷
     nothingLent (numberOf BassPod) is (30 ∷ []) ∷
     byteWith (numberOf BassPod) 1 Pod is (30 ∷ []) ∷
     handedWith (numberOf BassPod) Pod is (30 ∷ []) ∷

@@ -7,3 +7,4 @@ pub mod Why
 pub mod ShutOut
 pub mod Scenes
 pub mod Short
+pub mod Pro

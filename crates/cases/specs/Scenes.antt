@@ -74,10 +74,10 @@ scenes =
     answeredWith 256 0 freshSettings 2664 255 is (34 ∷ []) ∷
     answeredWith 1 0 freshSettings 2664 0 is (34 ∷ []) ∷
     -- each refusal before the next: 33, 34, 32 for the kind, 30, 32 for a setting
-    answeredWith 257 2 channel16 0 0 is (33 ∷ []) ∷
-    answeredWith 1 2 channel16 0 0 is (34 ∷ []) ∷
-    answeredWith 1 2 channel16 0 1 is (32 ∷ []) ∷
-    answeredWith 1 2 freshSettings 2664 1 is (32 ∷ []) ∷
+    answeredWith 257 3 channel16 0 0 is (33 ∷ []) ∷
+    answeredWith 1 3 channel16 0 0 is (34 ∷ []) ∷
+    answeredWith 1 3 channel16 0 1 is (32 ∷ []) ∷
+    answeredWith 1 3 freshSettings 2664 1 is (32 ∷ []) ∷
     answeredWith 1 0 channel16 2663 1 is (30 ∷ []) ∷
     answeredWith 1 1 channel16 2959 1 is (30 ∷ []) ∷
     answeredWith 1 1 freshSettings 2664 1 is (30 ∷ []) ∷

@@ -1,33 +1,23 @@
 -- Req 06, "Units that send 142.": both lengths of a POD's dumps, the marks, and what goes out by them; and a Bass box, which has one length.
-use Prim.Native.Nat.{ℕ, zero, suc, _-_}
+use Prim.Native.Nat.{ℕ, zero, suc}
 use mathlib.Core.List.{List, [], _∷_, _++_}
 use lib.ListN.{length, replicate, set}
-use Rattle.ground.specs.Lists.{from, written}
+use Rattle.ground.specs.Lists.{written}
 use Rattle.kinds.specs.declared.Kind.{Kind}
 use Rattle.kinds.specs.declared.Kind.the-variants.{Pod, BassPod}
 use Rattle.kinds.specs.Kinds.{numberOf, sizeOf}
 use Rattle.programs.specs.Memory.{memorySize}
 use Rattle.programs.specs.Held.{Held, heldOf, Target, One, Edit, All}
 use Rattle.framing.specs.Receiver.{fresh, openedOf, holdingOf}
-use Rattle.sysex.specs.Forms.{typeFor, ppFor, dumpStart, requestBody, dumpBody, ended}
+use Rattle.sysex.specs.Forms.{dumpBody, ended}
 use Rattle.sysex.specs.Numbers.{answerNumber}
 use Rattle.podbox.specs.Settings.{freshSettings}
 use Rattle.podbox.specs.Box.{takeOf, wholeOf, movesOf}
 use Rattle.cases.specs.Case.{Case, _is_}
-use Rattle.cases.specs.Asking.{zeros, ones, blank, heldOn, answerOn, repliedOn, handed}
+use Rattle.cases.specs.Asking.{zeros, ones, but, rising, blank, ofLength, asked, heldOn, answerOn, repliedOn, handed}
 use Rattle.cases.specs.Scenes.{move, editAt}
 
--- a dump of zeros of this whole length, and a request
-abbrev pub ofLength : Kind → Target → ℕ → List ℕ
-ofLength kind t count = let start = dumpStart kind (typeFor t) (ppFor t) in ended (start ++ zeros (count - 1 - length start))
-
-abbrev pub asked : Kind → Target → List ℕ
-asked kind t = ended (requestBody kind t)
-
--- bytes from 100 on, each one more than the one before it; so many programs of the same bytes; a dump of one with those, and of all
-abbrev pub rising : ℕ → List ℕ
-rising count = from (λ b. b) 100 count
-
+-- so many programs of the same bytes; a dump of one with rising bytes, and of all
 abbrev pub many : ℕ → List ℕ → List ℕ
 many zero bytes = []
 many (suc n) bytes = bytes ++ many n bytes
@@ -37,10 +27,6 @@ dumped kind t count = ended (dumpBody kind t (rising count))
 
 abbrev pub dumpedAll : Kind → ℕ → List ℕ
 dumpedAll kind count = ended (dumpBody kind All (many 36 (rising count)))
-
--- marks that are all set but for one
-abbrev pub but : ℕ → ℕ → List ℕ
-but place mark = set ones place mark
 
 -- a box with these marks, and zeros, or 9s, or such programs with their spare bytes
 abbrev pub blankHeld : Kind → List ℕ → Held

@@ -34,6 +34,7 @@ oneDump kind = ended (dumpBody kind (One 5) (zeros (sizeOf kind)))
 unfoldable pub everyDump : Kind → List ℕ
 everyDump kind = ended (dumpBody kind All (zeros (allSize kind)))
 
+-- to a POD, and to a POD Pro: "All else is as for a POD"
 unfoldable pub lines : List Line
 lines =
     -- right as they are
