@@ -39,7 +39,7 @@ use Rattle.sysex.specs.declared.Check.{Check}
 use Rattle.sysex.specs.declared.Order.{Order}
 use Rattle.sysex.specs.declared.Order.the-variants as order
 use Rattle.sysex.specs.Forms.{request, program, edit, bodyLength, isIdentity, dumpBody}
-use Rattle.sysex.specs.Judging.{judgedBy, hasForm, furtherTests, testsOf, orderOf, formOrder, bodyOrder, judgeOf}
+use Rattle.sysex.specs.Judging.{judgedBy, hasForm, furtherTests, testsOf, orderOf, bodyOrder, judgeOf}
 use Rattle.sysex.specs.Carrying.{Outcome, refusing, orderDoes, bodyDoes}
 use Rattle.podbox.specs.Messages.{isController, isProgramChange, channelTests, controllerDoes, programChangeDoes, channelDoes, messageDoes}
 use Rattle.podbox.specs.declared.Move.{Move}
