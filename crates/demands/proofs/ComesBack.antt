@@ -17,7 +17,7 @@ use Rattle.programs.proofs.Slots.{sent-slots, received-length}
 use Rattle.sockets.specs.Framer.{SysEx}
 use Rattle.sysex.specs.declared.Settings.{Settings}
 use Rattle.sysex.specs.Forms.{requestBody, dumpBody, ended}
-use Rattle.sysex.specs.Carrying.{Outcome, sending}
+use Rattle.carrying.specs.Carrying.{Outcome, sending}
 use Rattle.sysex.specs.Formats.{IsDump}
 use Rattle.podbox.specs.Messages.{messageDoes}
 use Rattle.podbox.specs.Whole.{handedDoes}
