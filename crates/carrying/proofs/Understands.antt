@@ -25,9 +25,9 @@ use Rattle.programs.proofs.Slots.{sent-slots, long-all, short-fewer}
 use Rattle.sysex.specs.Forms.{begins, opcodeOf, typeOf, programOf, request, program, edit, versionPlace, dataPlace, dataCount, bodyLength, shortest}
 use Rattle.sysex.specs.Forms.{typeFor, ppFor, requestBody, dumpBody, isLong, identityBody, isIdentity, isOurChannel}
 use Rattle.sysex.specs.Judging.{hasForm, hasProgram, furtherTests, testsOf, orderOf, formOrder, bodyOrder, judgeOf}
-use Rattle.carrying.specs.Private.{HasData, Fits}
 use Rattle.sysex.specs.Formats.{There, IsDump, IsRequest, IsIdentity, Meant, identity, asked, dumped, unsaid}
 use Rattle.sysex.proofs.Judged.{Right, right}
+use Rattle.carrying.specs.Private.{HasData, Fits}
 
 -- a list that begins so is that beginning, and the rest
 pub begun : (start body : List ℕ) → begins start body ≡ true → body ≡ start ++ drop (length start) body

@@ -25,9 +25,9 @@ use Rattle.sysex.specs.declared.Answer.the-variants.{Stored, Sent, Applied}
 use Rattle.sysex.specs.Forms.{typeFor, dataPlace, longest, dumpBody, isLong, identityReply, ended}
 use Rattle.sysex.specs.Numbers.{refused, checkNumber}
 use Rattle.sysex.specs.Judging.{judgeOf}
-use Rattle.carrying.specs.Carrying.{Outcome, refusing, orderDoes}
 use Rattle.sysex.specs.Formats.{Meant, identity, asked, dumped, unsaid}
 use Rattle.sysex.proofs.Numbered.{check-number}
+use Rattle.carrying.specs.Carrying.{Outcome, refusing, orderDoes}
 use Rattle.carrying.proofs.Parts.{program-inside}
 use Rattle.carrying.proofs.Understands.{meant}
 use Rattle.carrying.proofs.Writing.{identity-length}

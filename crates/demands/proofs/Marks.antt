@@ -21,8 +21,8 @@ use Rattle.sysex.specs.declared.Settings.{Settings}
 use Rattle.sysex.specs.declared.Order.{Order}
 use Rattle.sysex.specs.Forms.{isLong}
 use Rattle.sysex.specs.Judging.{judgeOf}
-use Rattle.carrying.specs.Carrying.{Outcome, refusing, orderDoes}
 use Rattle.sysex.specs.Formats.{There, Meant, identity, asked, dumped, unsaid}
+use Rattle.carrying.specs.Carrying.{Outcome, refusing, orderDoes}
 use Rattle.carrying.proofs.Understands.{meant}
 use Rattle.podbox.specs.Settings.{areMarks}
 use Rattle.podbox.specs.Messages.{isController, channelTests, channelDoes, messageDoes}
