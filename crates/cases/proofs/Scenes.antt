@@ -16,7 +16,7 @@ use Rattle.sockets.specs.History.{WorldOf, History, finishedAlong, saidsAlong}
 use Rattle.sockets.specs.Demand.{Fresh}
 use Rattle.sysex.specs.Forms.{bodyLength, isIdentity}
 use Rattle.sysex.specs.Judging.{hasForm, hasProgram, furtherTests, orderOf, bodyOrder}
-use Rattle.sysex.specs.Carrying.{orderDoes}
+use Rattle.carrying.specs.Carrying.{orderDoes}
 use Rattle.podbox.specs.Settings.{isValid, freshSettings, freshHeld}
 use Rattle.podbox.specs.Messages.{isHeard, isController, isProgramChange, channelDoes, messageDoes}
 use Rattle.podbox.specs.Whole.{isFramed, messageOrder}

@@ -22,7 +22,7 @@ use Rattle.sockets.specs.Box.{Lent, lent}
 use Rattle.sockets.specs.Promise.{stepDoes, byteOf, directOf}
 use Rattle.sysex.specs.Forms.{bodyLength, isIdentity, requestBody, dumpBody, ended}
 use Rattle.sysex.specs.Judging.{hasForm, hasProgram, furtherTests, orderOf, bodyOrder, judgeOf}
-use Rattle.sysex.specs.Carrying.{orderDoes}
+use Rattle.carrying.specs.Carrying.{orderDoes}
 use Rattle.podbox.specs.Settings.{isValid, areMarks, freshSettings, freshHeld}
 use Rattle.podbox.specs.Messages.{isHeard, isController, channelDoes, messageDoes}
 use Rattle.podbox.specs.Whole.{isFramed, messageOrder}

@@ -21,7 +21,7 @@ use Rattle.sysex.specs.declared.Settings.{Settings}
 use Rattle.sysex.specs.declared.Answer.{Answer}
 use Rattle.sysex.specs.Forms.{longest}
 use Rattle.sysex.specs.Numbers.{answerLength}
-use Rattle.sysex.specs.Carrying.{Outcome, Left}
+use Rattle.carrying.specs.Carrying.{Outcome, Left}
 use Rattle.podbox.specs.Whole.{bodyOf, messageOrder}
 use Rattle.podbox.specs.Box.{limit, takeTests, wholeTests, panel, Whole, plainAnswer, boxRules}
 use Rattle.demands.proofs.Tells.{Tells, order-tells, message-tells}

@@ -17,7 +17,7 @@ use Rattle.framing.specs.declared.Receiver.{Receiver}
 use Rattle.framing.specs.Receiver.{fresh, openedOf}
 use Rattle.sysex.specs.Forms.{longest, typeFor, ppFor, dumpStart, requestBody, ended}
 use Rattle.sysex.specs.Numbers.{answerNumber, answerLength}
-use Rattle.sysex.specs.Carrying.{Left}
+use Rattle.carrying.specs.Carrying.{Left}
 use Rattle.podbox.specs.Settings.{freshSettings, freshHeld}
 use Rattle.podbox.specs.Box.{takeOf, wholeOf}
 

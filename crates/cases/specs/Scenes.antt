@@ -16,7 +16,7 @@ use Rattle.sysex.specs.declared.Answer.{Answer}
 use Rattle.sysex.specs.declared.Answer.the-variants.{Taken}
 use Rattle.sysex.specs.Forms.{requestBody, ended}
 use Rattle.sysex.specs.Numbers.{answerNumber}
-use Rattle.sysex.specs.Carrying.{Left}
+use Rattle.carrying.specs.Carrying.{Left}
 use Rattle.podbox.specs.declared.Move.{Move}
 use Rattle.podbox.specs.Settings.{freshSettings, freshHeld}
 use Rattle.podbox.specs.Box.{Given, Whole, Moves, Delivered, FromPanel, FromList, panel, noted, movesOf}

@@ -19,7 +19,7 @@ use Rattle.sockets.specs.History.{WorldOf, History, finishedAlong}
 use Rattle.sysex.specs.declared.Settings.{Settings}
 use Rattle.sysex.specs.Forms.{longest}
 use Rattle.sysex.specs.Numbers.{answerNumber, answerLength}
-use Rattle.sysex.specs.Carrying.{Left}
+use Rattle.carrying.specs.Carrying.{Left}
 use Rattle.podbox.specs.Settings.{freshSettings}
 use Rattle.podbox.specs.Box.{Took, limit, takeTests, wholeTests, boxRules, takeOf, wholeOf}
 

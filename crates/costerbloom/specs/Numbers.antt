@@ -19,7 +19,7 @@ use Rattle.sockets.specs.Box.{Took, took}
 use Rattle.sysex.specs.declared.Settings.{Settings}
 use Rattle.sysex.specs.declared.Answer.{Answer}
 use Rattle.sysex.specs.Numbers.{answerNumber, answerLength}
-use Rattle.sysex.specs.Carrying.{memoryTest}
+use Rattle.carrying.specs.Carrying.{memoryTest}
 use Rattle.podbox.specs.declared.Move.{Move}
 use Rattle.podbox.specs.Box.{kindTest, panel, takeOf, wholeOf, movesOf}
 

@@ -31,10 +31,11 @@ use Rattle.sysex.specs.declared.Order.{Order}
 use Rattle.sysex.specs.Forms.{begins, opcodeOf, typeOf, request, dump, typeFor, dataPlace, bodyLength, wholeLength, shortest, dumpBody, isIdentity, ended}
 use Rattle.sysex.specs.Numbers.{refused, checkNumber}
 use Rattle.sysex.specs.Judging.{hasForm, isKnown, hasLength, furtherTests, testsOf, identityTests, formTests, dataTests, bodyOrder, judgeOf}
-use Rattle.sysex.specs.Carrying.{Outcome, refusing, storing, orderDoes, bodyDoes}
 use Rattle.sysex.specs.Formats.{There, IsDump, Meant, identity, asked, dumped, unsaid}
-use Rattle.sysex.proofs.Numbered.{passed-done, done-not-refused}
-use Rattle.sysex.proofs.Understands.{begun, halves-sent, data-behind, meant}
+use Rattle.sysex.proofs.Numbered.{passed-done}
+use Rattle.carrying.specs.Carrying.{Outcome, refusing, storing, orderDoes, bodyDoes}
+use Rattle.carrying.proofs.Numbered.{done-not-refused}
+use Rattle.carrying.proofs.Understands.{begun, halves-sent, data-behind, meant}
 use Rattle.podbox.specs.Messages.{isController, channelTests, channelDoes, messageDoes}
 use Rattle.podbox.specs.Whole.{handedDoes}
 use Rattle.podbox.specs.Box.{panel, Delivered, FromPanel, FromList, boxRules}

@@ -27,7 +27,7 @@ use Rattle.sockets.specs.Promise.{stepDoes}
 use Rattle.sysex.specs.declared.Settings.{Settings}
 use Rattle.sysex.specs.Forms.{longest}
 use Rattle.sysex.specs.Numbers.{refused}
-use Rattle.sysex.specs.Carrying.{refusing}
+use Rattle.carrying.specs.Carrying.{refusing}
 use Rattle.podbox.specs.Settings.{isValid, areMarks}
 use Rattle.podbox.specs.Messages.{isHeard, isController, channelDoes, messageDoes}
 use Rattle.podbox.specs.Box.{limit, takeOf}

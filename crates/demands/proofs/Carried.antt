@@ -22,15 +22,15 @@ use Rattle.sockets.specs.Framer.{Message, SysEx, TooLong, Channel}
 use Rattle.sysex.specs.declared.Settings.{Settings}
 use Rattle.sysex.specs.declared.Order.{Order}
 use Rattle.sysex.specs.declared.Answer.the-variants.{Stored, Sent, Applied}
-use Rattle.sysex.specs.Forms.{typeFor, dataPlace, longest, dumpBody, identityReply, ended}
+use Rattle.sysex.specs.Forms.{typeFor, dataPlace, longest, dumpBody, isLong, identityReply, ended}
 use Rattle.sysex.specs.Numbers.{refused, checkNumber}
 use Rattle.sysex.specs.Judging.{judgeOf}
-use Rattle.sysex.specs.Carrying.{Outcome, refusing, isLong, orderDoes}
 use Rattle.sysex.specs.Formats.{Meant, identity, asked, dumped, unsaid}
 use Rattle.sysex.proofs.Numbered.{check-number}
-use Rattle.sysex.proofs.Parts.{program-inside}
-use Rattle.sysex.proofs.Understands.{meant}
-use Rattle.sysex.proofs.Writing.{identity-length}
+use Rattle.carrying.specs.Carrying.{Outcome, refusing, orderDoes}
+use Rattle.carrying.proofs.Parts.{program-inside}
+use Rattle.carrying.proofs.Understands.{meant}
+use Rattle.carrying.proofs.Writing.{identity-length}
 use Rattle.podbox.specs.Messages.{isController, channelTests, changeAnswer, controllerDoes, programChangeDoes, channelDoes, messageDoes}
 use Rattle.podbox.proofs.Taking.{change-numbered}
 use Rattle.podbox.specs.Whole.{bodyOf, messageOrder, handedDoes}

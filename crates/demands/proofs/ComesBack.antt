@@ -17,8 +17,8 @@ use Rattle.programs.proofs.Slots.{sent-slots, received-length}
 use Rattle.sockets.specs.Framer.{SysEx}
 use Rattle.sysex.specs.declared.Settings.{Settings}
 use Rattle.sysex.specs.Forms.{requestBody, dumpBody, ended}
-use Rattle.sysex.specs.Carrying.{Outcome, sending}
 use Rattle.sysex.specs.Formats.{IsDump}
+use Rattle.carrying.specs.Carrying.{Outcome, sending}
 use Rattle.podbox.specs.Messages.{messageDoes}
 use Rattle.podbox.specs.Whole.{handedDoes}
 use Rattle.demands.proofs.Forms.{named-inside, dump-opens, request-opens, ended-does}

@@ -19,8 +19,8 @@ use Rattle.controls.proofs.Controllers.{apply-cases, store-length}
 use Rattle.sockets.specs.Framer.{Channel}
 use Rattle.sysex.specs.declared.Settings.{Settings}
 use Rattle.sysex.specs.declared.Answer.the-variants.{Applied}
-use Rattle.sysex.specs.Carrying.{Outcome, refusing}
-use Rattle.sysex.proofs.Parts.{program-inside}
+use Rattle.carrying.specs.Carrying.{Outcome, refusing}
+use Rattle.carrying.proofs.Parts.{program-inside}
 use Rattle.podbox.specs.Messages.{isController, channelTests, changeAnswer, controllerDoes, channelDoes, messageDoes}
 use Rattle.demands.specs.EditAlone.{EditAlone, Moved}
 

@@ -40,7 +40,7 @@ use Rattle.sysex.specs.declared.Order.{Order}
 use Rattle.sysex.specs.declared.Order.the-variants as order
 use Rattle.sysex.specs.Forms.{request, program, edit, bodyLength, isIdentity, dumpBody}
 use Rattle.sysex.specs.Judging.{judgedBy, hasForm, furtherTests, testsOf, orderOf, bodyOrder, judgeOf}
-use Rattle.sysex.specs.Carrying.{Outcome, refusing, orderDoes, bodyDoes}
+use Rattle.carrying.specs.Carrying.{Outcome, refusing, orderDoes, bodyDoes}
 use Rattle.podbox.specs.Messages.{isController, isProgramChange, channelTests, controllerDoes, programChangeDoes, channelDoes, messageDoes}
 use Rattle.podbox.specs.declared.Move.{Move}
 use Rattle.podbox.specs.Moves.{moveMessage}

@@ -30,8 +30,8 @@ use Rattle.sysex.specs.declared.Check.the-variants as check
 use Rattle.sysex.specs.declared.Answer.{Answer}
 use Rattle.sysex.specs.declared.Answer.the-variants.{Taken, Stored, Sent, Applied, Cut, Refused}
 use Rattle.sysex.specs.Numbers.{answerNumber, answerLength, checkNumber, orderNumber}
-use Rattle.sysex.specs.Carrying.{Outcome, Left}
-use Rattle.sysex.proofs.Numbered.{does-number}
+use Rattle.carrying.specs.Carrying.{Outcome, Left}
+use Rattle.carrying.proofs.Numbered.{does-number}
 use Rattle.podbox.specs.Messages.{messageDoes}
 use Rattle.podbox.specs.Whole.{bodyOf, messageOrder}
 use Rattle.podbox.specs.Box.{limit, panel, boxRules, takeOf, wholeOf}

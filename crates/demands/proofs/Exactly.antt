@@ -25,11 +25,11 @@ use Rattle.sockets.specs.Promise.{stepDoes}
 use Rattle.sysex.specs.declared.Settings.{Settings}
 use Rattle.sysex.specs.declared.Order.{Order}
 use Rattle.sysex.specs.declared.Answer.the-variants.{Stored, Sent}
-use Rattle.sysex.specs.Forms.{typeFor, dataPlace, longest, requestBody, dumpBody, identityReply, ended}
+use Rattle.sysex.specs.Forms.{typeFor, dataPlace, longest, requestBody, dumpBody, isLong, identityReply, ended}
 use Rattle.sysex.specs.Judging.{judgeOf}
-use Rattle.sysex.specs.Carrying.{Outcome, refusing, isLong, orderDoes, bodyDoes, sending, answering}
 use Rattle.sysex.specs.Formats.{IsDump, IsRequest, IsIdentity, Meant, identity, asked, dumped, unsaid}
-use Rattle.sysex.proofs.Understands.{meant, data-behind, is-long}
+use Rattle.carrying.specs.Carrying.{Outcome, refusing, orderDoes, bodyDoes, sending, answering}
+use Rattle.carrying.proofs.Understands.{meant, data-behind, is-long}
 use Rattle.podbox.specs.Messages.{messageDoes}
 use Rattle.podbox.specs.Whole.{isFramed, bodyOf, handedDoes}
 use Rattle.podbox.specs.Box.{limit, panel, takeTests, wholeTests, takeOf, wholeOf}

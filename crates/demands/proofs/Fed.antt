@@ -20,7 +20,7 @@ use Rattle.sockets.specs.Demand.{Fresh}
 use Rattle.sockets.proofs.Fed.{framed-fed}
 use Rattle.sysex.specs.declared.Settings.{Settings}
 use Rattle.sysex.specs.Forms.{longest}
-use Rattle.sysex.specs.Carrying.{refusing}
+use Rattle.carrying.specs.Carrying.{refusing}
 use Rattle.podbox.specs.Messages.{messageDoes}
 use Rattle.podbox.specs.Whole.{isFramed, bodyOf, handedDoes}
 use Rattle.podbox.specs.Box.{limit, boxRules}

@@ -23,10 +23,10 @@ use Rattle.sysex.specs.declared.Settings.{Settings}
 use Rattle.sysex.specs.declared.Order.the-variants.{Refused}
 use Rattle.sysex.specs.Forms.{typeFor, dataPlace, longest, requestBody, dumpBody, ended}
 use Rattle.sysex.specs.Judging.{hasForm, bodyOrder}
-use Rattle.sysex.specs.Carrying.{orderDoes, bodyDoes, answering, storing}
 use Rattle.sysex.specs.Formats.{There, IsDump, IsRequest, IsIdentity, sendOrder, storeOrder, Meant, unsaid}
-use Rattle.sysex.proofs.Parts.{program-inside}
-use Rattle.sysex.proofs.Understands.{passed-meant}
+use Rattle.carrying.specs.Carrying.{orderDoes, bodyDoes, answering, storing}
+use Rattle.carrying.proofs.Parts.{program-inside}
+use Rattle.carrying.proofs.Understands.{passed-meant}
 use Rattle.podbox.specs.Messages.{messageDoes}
 use Rattle.podbox.specs.Whole.{isFramed, bodyOf, messageTests, messageOrder, handedDoes}
 use Rattle.podbox.specs.Box.{limit}

@@ -45,8 +45,9 @@ use Rattle.sysex.specs.declared.Answer.the-variants as answer
 use Rattle.sysex.specs.declared.Check.{Check}
 use Rattle.sysex.specs.Numbers.{refused, answerNumber, checkNumber}
 use Rattle.sysex.specs.Judging.{testsOf, judgedBy, bodyOrder, judgeOf}
-use Rattle.sysex.specs.Carrying.{Outcome, Left, refusing, orderDoes, memoryTest}
-use Rattle.sysex.proofs.Numbered.{passed-done, done-not-refused}
+use Rattle.sysex.proofs.Numbered.{passed-done}
+use Rattle.carrying.specs.Carrying.{Outcome, Left, refusing, orderDoes, memoryTest}
+use Rattle.carrying.proofs.Numbered.{done-not-refused}
 use Rattle.podbox.specs.declared.Move.{Move}
 use Rattle.podbox.specs.Settings.{isValid}
 use Rattle.podbox.specs.Messages.{isController, channelTests, changeAnswer, controllerDoes, programChangeDoes, channelDoes, messageDoes}

@@ -19,10 +19,11 @@ use Rattle.programs.proofs.Slots.{marked-length}
 use Rattle.sockets.specs.Framer.{Message, SysEx, TooLong, Channel}
 use Rattle.sysex.specs.declared.Settings.{Settings}
 use Rattle.sysex.specs.declared.Order.{Order}
+use Rattle.sysex.specs.Forms.{isLong}
 use Rattle.sysex.specs.Judging.{judgeOf}
-use Rattle.sysex.specs.Carrying.{Outcome, refusing, isLong, orderDoes}
 use Rattle.sysex.specs.Formats.{There, Meant, identity, asked, dumped, unsaid}
-use Rattle.sysex.proofs.Understands.{meant}
+use Rattle.carrying.specs.Carrying.{Outcome, refusing, orderDoes}
+use Rattle.carrying.proofs.Understands.{meant}
 use Rattle.podbox.specs.Settings.{areMarks}
 use Rattle.podbox.specs.Messages.{isController, channelTests, channelDoes, messageDoes}
 use Rattle.podbox.specs.Whole.{bodyOf, messageOrder, handedDoes}

@@ -13,8 +13,8 @@ use Rattle.framing.specs.Bytes.{stepOf}
 use Rattle.sockets.specs.Box.{lent, took, directDoes}
 use Rattle.sockets.specs.Promise.{socketOf, stepDoes, byteOf, directOf}
 use Rattle.sysex.specs.declared.Settings.{Settings}
-use Rattle.sysex.specs.Carrying.{Left}
 use Rattle.sysex.specs.Numbers.{refused}
+use Rattle.carrying.specs.Carrying.{Left}
 use Rattle.podbox.specs.declared.Move.{Move}
 use Rattle.podbox.specs.Whole.{handedDoes}
 use Rattle.podbox.specs.Box.{Took, limit, panel, Moves, boxRules, plainAnswer, takeTests, wholeTests, movesTests, takeOf, wholeOf, movesOf}

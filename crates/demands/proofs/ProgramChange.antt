@@ -26,8 +26,8 @@ use Rattle.sockets.specs.Box.{lent, took}
 use Rattle.sockets.specs.Promise.{stepDoes}
 use Rattle.sysex.specs.declared.Settings.{Settings}
 use Rattle.sysex.specs.declared.Answer.the-variants.{Stored}
-use Rattle.sysex.specs.Carrying.{Outcome, refusing}
-use Rattle.sysex.proofs.Parts.{program-inside}
+use Rattle.carrying.specs.Carrying.{Outcome, refusing}
+use Rattle.carrying.proofs.Parts.{program-inside}
 use Rattle.podbox.specs.Messages.{isHeard, isController, isProgramChange, channelTests, changeAnswer, programChangeDoes, channelDoes, messageDoes}
 use Rattle.podbox.specs.Box.{takeTests, takeOf}
 use Rattle.podbox.proofs.Taking.{sender}

@@ -21,8 +21,9 @@ use Rattle.sysex.specs.declared.Order.the-variants.{Refused}
 use Rattle.sysex.specs.Forms.{opcodeOf, typeOf, programOf, request, dump, program, all, bodyLength, wholeLength, shortest, longest, isIdentity, isOurChannel}
 use Rattle.sysex.specs.Numbers.{answerNumber, orderNumber}
 use Rattle.sysex.specs.Judging.{hasProgram, formTests, furtherTests, bodyOrder}
-use Rattle.sysex.specs.Carrying.{Left, orderDoes}
-use Rattle.sysex.proofs.Numbered.{passed-done, does-number}
+use Rattle.sysex.proofs.Numbered.{passed-done}
+use Rattle.carrying.specs.Carrying.{Left, orderDoes}
+use Rattle.carrying.proofs.Numbered.{does-number}
 use Rattle.podbox.specs.Settings.{isValid, areMarks, freshSettings, freshHeld}
 use Rattle.podbox.specs.Whole.{bodyOf, messageTests, messageOrder, reasonOf}
 use Rattle.podbox.specs.Box.{panel, wholeOf}

@@ -28,7 +28,7 @@ use Rattle.sysex.specs.declared.Settings.{Settings}
 use Rattle.sysex.specs.declared.Answer.{Answer}
 use Rattle.sysex.specs.Forms.{longest}
 use Rattle.sysex.specs.Numbers.{answerNumber}
-use Rattle.sysex.specs.Carrying.{Outcome}
+use Rattle.carrying.specs.Carrying.{Outcome}
 use Rattle.podbox.specs.declared.Move.{Move}
 use Rattle.podbox.specs.Settings.{isValid, areMarks}
 use Rattle.podbox.specs.Whole.{bodyOf, messageOrder}

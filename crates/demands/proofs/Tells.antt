@@ -21,7 +21,7 @@ use Rattle.sysex.specs.declared.Order.{Order}
 use Rattle.sysex.specs.declared.Order.the-variants.{Identify, SendProgram, SendEdit, SendAll, StoreProgram, StoreEdit, StoreAll, Refused}
 use Rattle.sysex.specs.Numbers.{answerNumber, answerLength}
 use Rattle.sysex.specs.Judging.{judgeOf}
-use Rattle.sysex.specs.Carrying.{Outcome, refusing, orderDoes}
+use Rattle.carrying.specs.Carrying.{Outcome, refusing, orderDoes}
 use Rattle.podbox.specs.Messages.{isController, channelTests, changeAnswer, channelDoes, messageDoes}
 
 -- whatever the box holds

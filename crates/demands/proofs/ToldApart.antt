@@ -24,8 +24,8 @@ use Rattle.sysex.specs.declared.Settings.{Settings}
 use Rattle.sysex.specs.declared.Answer.{Answer}
 use Rattle.sysex.specs.Forms.{longest}
 use Rattle.sysex.specs.Numbers.{answerNumber, answerLength}
-use Rattle.sysex.specs.Carrying.{Left, memoryTest}
 use Rattle.sysex.proofs.Lengths.{longest-bounds}
+use Rattle.carrying.specs.Carrying.{Left, memoryTest}
 use Rattle.podbox.specs.declared.Move.{Move}
 use Rattle.podbox.specs.Box.{kindTest, panel, takeOf, wholeOf, movesOf}
 use Rattle.costerbloom.specs.Numbers.{packed, readingNumber, takeNumbers, wholeNumbers, movesNumbers, scaleCall, scaleNumber, memoryBack, backCall, backNumber}

@@ -13,7 +13,7 @@ use Rattle.framing.specs.Bytes.{stepOf}
 use Rattle.sockets.specs.Box.{took}
 use Rattle.sysex.specs.Forms.{longest}
 use Rattle.sysex.specs.Numbers.{answerNumber, answerLength}
-use Rattle.sysex.specs.Carrying.{Left}
+use Rattle.carrying.specs.Carrying.{Left}
 use Rattle.podbox.specs.Box.{Took, limit}
 
 -- the numbers of document 01's table that a byte call returns, and those that the panel's call returns

@@ -13,7 +13,7 @@ use Rattle.controls.specs.Table.{rowOf}
 use Rattle.controls.specs.Applying.{storeRow}
 use Rattle.sysex.specs.declared.Settings.{Settings}
 use Rattle.sysex.specs.declared.Answer.the-variants.{Stored}
-use Rattle.sysex.specs.Carrying.{Outcome}
+use Rattle.carrying.specs.Carrying.{Outcome}
 use Rattle.podbox.specs.Messages.{isHeard}
 
 -- every program stays, and so does every byte of memory outside the edit buffer, and every mark: "A controller leaves the mark as it was."

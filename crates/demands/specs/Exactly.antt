@@ -12,7 +12,7 @@ use Rattle.sysex.specs.declared.Settings.{Settings}
 use Rattle.sysex.specs.declared.Answer.the-variants.{Stored, Sent}
 use Rattle.sysex.specs.Forms.{identityReply}
 use Rattle.sysex.specs.Formats.{IsDump, IsRequest, IsIdentity}
-use Rattle.sysex.specs.Carrying.{Outcome, sending, answering}
+use Rattle.carrying.specs.Carrying.{Outcome, sending, answering}
 
 -- `Body` says which bodies the message has: of one that is handed over whole, what stands before its F7; of one that F7 finishes on a socket, what
 -- stands in the receive buffer

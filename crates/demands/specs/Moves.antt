@@ -15,7 +15,7 @@ use Rattle.sockets.specs.Box.{FinishesOf, heldAfter, saidsOf}
 use Rattle.sysex.specs.declared.Settings.{Settings}
 use Rattle.sysex.specs.declared.Answer.the-variants.{Taken}
 use Rattle.sysex.specs.Numbers.{answerNumber}
-use Rattle.sysex.specs.Carrying.{Left}
+use Rattle.carrying.specs.Carrying.{Left}
 use Rattle.podbox.specs.declared.Move.{Move}
 use Rattle.podbox.specs.Moves.{mostMoves, moveMessage}
 use Rattle.podbox.specs.Box.{Given, Whole, Moves, panel, noted, boxRules}

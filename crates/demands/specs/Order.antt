@@ -23,7 +23,7 @@ use Rattle.sockets.specs.Promise.{happeningOf}
 use Rattle.sysex.specs.declared.Settings.{Settings}
 use Rattle.sysex.specs.Numbers.{checkNumber}
 use Rattle.sysex.specs.Judging.{testsOf}
-use Rattle.sysex.specs.Carrying.{memoryTest}
+use Rattle.carrying.specs.Carrying.{memoryTest}
 use Rattle.podbox.specs.Messages.{isController, channelTests}
 use Rattle.podbox.specs.Whole.{messageTests}
 use Rattle.podbox.specs.Box.{limit, panel, kindTest, takeTests, wholeTests}

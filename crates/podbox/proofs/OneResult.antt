@@ -12,7 +12,7 @@ use Rattle.sockets.proofs.OneResult.{took-one}
 use Rattle.sysex.specs.declared.Settings.{Settings}
 use Rattle.sysex.specs.declared.Answer.{Answer}
 use Rattle.sysex.specs.declared.Order.{Order}
-use Rattle.sysex.specs.Carrying.{Outcome}
+use Rattle.carrying.specs.Carrying.{Outcome}
 use Rattle.podbox.specs.declared.Move.{Move}
 use Rattle.podbox.specs.Whole.{reasonOf}
 use Rattle.podbox.specs.Box.{takeOf, wholeOf, listAnswer, moveDoes}

@@ -19,7 +19,7 @@ use Rattle.sysex.specs.declared.Order.the-variants.{Refused}
 use Rattle.sysex.specs.declared.Check.the-variants.{TooLong, Ours}
 use Rattle.sysex.specs.Forms.{longest}
 use Rattle.sysex.specs.Judging.{judgedBy, hasForm, furtherTests, bodyOrder, judgeOf}
-use Rattle.sysex.specs.Carrying.{orderDoes, refusing}
+use Rattle.carrying.specs.Carrying.{orderDoes, refusing}
 use Rattle.podbox.specs.Messages.{messageDoes}
 use Rattle.podbox.specs.Settings.{freshSettings}
 use Rattle.podbox.specs.Whole.{isFramed, bodyOf, messageOrder, handedDoes, reasonOf}

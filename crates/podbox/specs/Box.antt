@@ -21,7 +21,7 @@ use Rattle.sysex.specs.declared.Answer.{Answer}
 use Rattle.sysex.specs.declared.Answer.the-variants.{Taken, Cut}
 use Rattle.sysex.specs.Forms.{longest}
 use Rattle.sysex.specs.Numbers.{refused, answerNumber, answerLength}
-use Rattle.sysex.specs.Carrying.{Outcome, Left, refusing, memoryTest, heldTest, marksTest, bufferTest}
+use Rattle.carrying.specs.Carrying.{Outcome, Left, refusing, memoryTest, heldTest, marksTest, bufferTest}
 use Rattle.podbox.specs.Settings.{isValid, areMarks}
 use Rattle.podbox.specs.declared.Move.{Move}
 use Rattle.podbox.specs.Messages.{controllerDoes, messageDoes}

@@ -17,7 +17,7 @@ use Rattle.sysex.specs.declared.Settings.{Settings}
 use Rattle.sysex.specs.declared.Answer.{Answer}
 use Rattle.sysex.specs.declared.Answer.the-variants.{Stored, Applied}
 use Rattle.sysex.specs.Numbers.{refused}
-use Rattle.sysex.specs.Carrying.{Outcome, refusing, bodyDoes}
+use Rattle.carrying.specs.Carrying.{Outcome, refusing, bodyDoes}
 
 -- 20 "channel message on another channel, not omni"
 unfoldable pub isHeard : Settings → ℕ → Bool

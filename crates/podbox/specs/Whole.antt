@@ -15,7 +15,7 @@ use Rattle.sysex.specs.declared.Check.the-variants.{TooLong, Ours}
 use Rattle.sysex.specs.declared.Order.{Order}
 use Rattle.sysex.specs.Forms.{longest}
 use Rattle.sysex.specs.Judging.{judgedBy, hasForm, furtherTests, bodyOrder}
-use Rattle.sysex.specs.Carrying.{Outcome, orderDoes}
+use Rattle.carrying.specs.Carrying.{Outcome, orderDoes}
 use Rattle.podbox.specs.Settings.{freshSettings}
 
 -- "11 if it does not begin with F0, end with F7 as another byte, or has a byte above 0x7F between"

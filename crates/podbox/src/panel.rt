@@ -90,7 +90,7 @@ fn framed(
     }
     if is_framed(message) {
         let end = message.len() - 1;
-        return sysex::carry_out(
+        return carrying::carry_out(
             &message[..end],
             player,
             kind,

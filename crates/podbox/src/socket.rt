@@ -193,7 +193,7 @@ fn act(
         }
         Event::TooLong => refused(receiver, 10),
         Event::SysEx(count) => {
-            let answer = sysex::carry_out(
+            let answer = carrying::carry_out(
                 &receive[..count as usize],
                 player,
                 kind,

@@ -14,8 +14,7 @@ use Rattle.sysex.specs.declared.Settings.{Settings}
 use Rattle.sysex.specs.declared.Check.{Check}
 use Rattle.sysex.specs.declared.Order.{Order}
 use Rattle.sysex.specs.declared.Order.the-variants.{Identify, SendProgram, SendEdit, SendAll, StoreProgram, StoreEdit, StoreAll, Refused}
-use Rattle.sysex.specs.Carrying.{isLong}
-use Rattle.sysex.specs.Forms.{typeFor, dataPlace, requestBody, dumpBody, identityBody, isOurChannel}
+use Rattle.sysex.specs.Forms.{typeFor, dataPlace, requestBody, dumpBody, isLong, identityBody, isOurChannel}
 
 -- the program is one of the 36
 abbrev pub There : Target → Type 0

@@ -8,7 +8,7 @@ use Rattle.halves.specs.HalfBytes.{split}
 use Rattle.kinds.specs.declared.Kind.{Kind}
 use Rattle.kinds.specs.Kinds.{hasSpare, headerOf, identityOf}
 use Rattle.programs.specs.Memory.{programCount}
-use Rattle.programs.specs.Held.{Target, One, Edit, All, sentSize}
+use Rattle.programs.specs.Held.{Target, One, Edit, All, countFor, sentSize}
 use Rattle.sysex.specs.declared.Settings.{Settings}
 
 -- a list's first bytes are those of another
@@ -100,6 +100,10 @@ dumpStart kind type pp = headerOf kind ++ (dump ∷ type ∷ (pp ++ (version ∷
 
 abbrev pub dumpBody : Kind → Target → List ℕ → List ℕ
 dumpBody kind t bytes = dumpStart kind (typeFor t) (ppFor t) ++ split bytes
+
+-- a dump is long where it has two half bytes for each byte of what it names
+abbrev pub isLong : Kind → Target → List ℕ → Bool
+isLong kind t body = eqb (length body) (dataPlace (typeFor t) + 2 * countFor kind t)
 
 -- "Identity: F0 7E cc 06 01 F7, cc at most 0x7F."
 abbrev pub identityBody : ℕ → List ℕ

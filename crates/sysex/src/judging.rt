@@ -15,18 +15,18 @@ use crate::bytes;
 use kinds::Kind;
 use programs::PROGRAMS;
 
-// The opcodes, and the types (`typed` in this crate: `type` is a word of the language).
+// The opcodes, and the types (`typed` in code: `type` is a word of the language).
 const REQUEST: u8 = 0;
 
-pub(crate) const DUMP: u8 = 1;
+pub const DUMP: u8 = 1;
 
-pub(crate) const PROGRAM: u8 = 0;
+pub const PROGRAM: u8 = 0;
 
-pub(crate) const EDIT: u8 = 1;
+pub const EDIT: u8 = 1;
 
-pub(crate) const ALL: u8 = 2;
+pub const ALL: u8 = 2;
 
-pub(crate) const VERSION: u8 = 0;
+pub const VERSION: u8 = 0;
 
 // The highest program, and the highest half byte.
 const LAST: u8 = PROGRAMS as u8 - 1;
@@ -205,7 +205,7 @@ fn data_judged(body: &[u8], typed: u8, asked: Order) -> Order
 }
 
 // Where the version of a dump stands, one place before its data.
-pub(crate) fn version_place(typed: u8) -> usize
+pub fn version_place(typed: u8) -> usize
     ensures { λ r. ⌜ (r ≡ versionPlace typed) × (r ≤ 8) ⌝ }
 {
     if typed == PROGRAM { 8 } else { 7 }

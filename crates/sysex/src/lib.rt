@@ -1,17 +1,20 @@
-// SysEx: what a message's body asks for, and what that does to memory and to the reply buffer. A body is F0 and the
-// bytes after it, without F7, as it stands in a receive buffer; nothing is assumed of its bytes.
-mod answering;
+// SysEx: what a message's body asks for, and the numbers of orders and answers. A body is F0 and the bytes after it,
+// without F7, as it stands in a receive buffer; nothing is assumed of its bytes.
 mod bytes;
-mod carrying;
 mod judging;
 mod numbers;
-mod short;
 
-pub use carrying::carry_out;
+pub use judging::ALL;
+pub use judging::DUMP;
+pub use judging::EDIT;
+pub use judging::PROGRAM;
+pub use judging::VERSION;
 pub use judging::judge;
 pub use judging::longest;
+pub use judging::version_place;
 pub use numbers::answer_length;
 pub use numbers::answer_number;
+pub use numbers::check_number;
 pub use numbers::order_number;
 pub use numbers::refused;
 

@@ -41,7 +41,7 @@ pub fn answer_length(answer: Answer) -> u16
 }
 
 // The number of a check that fails.
-pub(crate) fn check_number(check: Check) -> u8
+pub fn check_number(check: Check) -> u8
     ensures { λ r. ⌜ r ≡ checkNumber check ⌝ }
 {
     match check {

@@ -3,8 +3,8 @@ use denote.Ref.{now}
 use mathlib.Core.List.{[]}
 use mathlib.Core.Path.{ap}
 use lib.ListN.{set}
-use Rattle.sysex.specs.Carrying.{Outcome}
 use Rattle.sysex.specs.Numbers.{answerNumber}
+use Rattle.carrying.specs.Carrying.{Outcome}
 use Rattle.costerbloom.specs.Private.{buffers, makeOf}
 use borrow.Author.Needs.{needs}
 use Rattle.costerbloom.proofs.moves.make.Statement.{statement}

@@ -8,7 +8,7 @@ use Rattle.ground.specs.Calls.{outcome}
 use Rattle.programs.specs.Memory.{partOf, putPart}
 use Rattle.programs.specs.Held.{heldOf}
 use Rattle.sysex.specs.declared.Answer.the-variants.{Stored}
-use Rattle.sysex.proofs.Parts.{program-inside}
+use Rattle.carrying.proofs.Parts.{program-inside}
 use borrow.Author.Needs.{needs}
 use Rattle.podbox.proofs.channel.change_program.Statement.{statement}
 use Rattle.podbox.proofs.channel.change_program.Tie as tie

@@ -11,7 +11,7 @@ use Rattle.kinds.specs.Kinds.{sizeOf}
 use Rattle.programs.specs.Memory.{editPlace, putPart}
 use Rattle.programs.specs.Held.{heldOf}
 use Rattle.controls.specs.Applying.{Changed, applyOf}
-use Rattle.sysex.specs.Carrying.{Outcome}
+use Rattle.carrying.specs.Carrying.{Outcome}
 use Rattle.podbox.specs.Messages.{changeAnswer}
 use borrow.Author.Needs.{needs}
 use Rattle.podbox.proofs.channel.controller.Statement.{statement}

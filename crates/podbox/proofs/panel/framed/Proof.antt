@@ -8,7 +8,7 @@ use Rattle.ground.proofs.Tests.{tests}
 use Rattle.podbox.specs.Messages.{messageDoes}
 use Rattle.podbox.proofs.Frames
 use Rattle.podbox.proofs.Orders.{handed-does}
-use Rattle.sysex.proofs.Parts.{carry-long}
+use Rattle.carrying.proofs.Parts.{carry-long}
 use borrow.Author.Needs.{needs}
 use Rattle.podbox.proofs.panel.framed.Statement.{statement}
 use Rattle.podbox.proofs.panel.framed.Tie as tie

@@ -4,8 +4,8 @@ use mathlib.Core.Path.{ap, _∙_}
 use native.Mathlib.Omega.{arith}
 use lib.ListN.{length-take}
 use Rattle.ground.specs.Lists.{written}
-use Rattle.sysex.specs.Carrying.{Left, Outcome}
-use Rattle.sysex.proofs.Parts.{carry-long}
+use Rattle.carrying.specs.Carrying.{Left, Outcome}
+use Rattle.carrying.proofs.Parts.{carry-long}
 use Rattle.sockets.specs.Box.{took}
 use Rattle.sockets.specs.Promise.{stepDoes}
 use Rattle.podbox.specs.Messages.{messageDoes}
