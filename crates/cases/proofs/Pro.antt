@@ -12,7 +12,7 @@ use Rattle.framing.specs.Bytes.{stepOf}
 use Rattle.sockets.specs.Promise.{stepDoes, byteOf, directOf}
 use Rattle.sysex.specs.Forms.{bodyLength, isIdentity, isOurChannel}
 use Rattle.sysex.specs.Judging.{hasForm, hasProgram, furtherTests, orderOf, bodyOrder}
-use Rattle.sysex.specs.Carrying.{orderDoes}
+use Rattle.carrying.specs.Carrying.{orderDoes}
 use Rattle.podbox.specs.Settings.{isValid, areMarks, freshSettings, freshHeld}
 use Rattle.podbox.specs.Messages.{isHeard, isController, isProgramChange, channelDoes, messageDoes}
 use Rattle.podbox.specs.Whole.{isFramed, messageOrder}
