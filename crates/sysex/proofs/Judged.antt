@@ -13,8 +13,12 @@ use Rattle.ground.proofs.Tests.{both, one-of, by}
 use Rattle.halves.specs.HalfBytes.{allHalves}
 use Rattle.kinds.specs.declared.Kind.{Kind}
 use Rattle.kinds.specs.Kinds.{headerOf}
-use Rattle.sysex.specs.Forms.{begins, opcodeOf, typeOf, programOf, request, dump, all, version, versionPlace, dataPlace, dataCount, bodyLength, shortest}
+use Rattle.sysex.specs.Forms.{begins, opcodeOf, typeOf, programOf, request, dump, program, all, version, versionPlace, dataPlace, dataCount, bodyLength, shortest}
 use Rattle.sysex.specs.Judging.{hasProgram, dataTests, formTests}
+
+-- the version stands among the first bytes
+pub version-low : (type place : ℕ) → place ≡ versionPlace type → place ≤ 8
+version-low type place e = rw e (by (λ (n : ℕ). n ≤ 8) (eqb type program) 8 7 (λ _. omega arith) (λ _. omega arith))
 
 -- no body of an opcode and type is shorter than a short one
 least : (kind : Kind) (long : Bool) (opcode type : ℕ) → bodyLength kind false opcode type ≤ bodyLength kind long opcode type

@@ -1,5 +1,5 @@
 -- Each promise of this crate leaves room for one result only.
-use Prim.Native.Nat.{ℕ, _≤_}
+use Prim.Native.Nat.{ℕ}
 use mathlib.Core.List.{List}
 use mathlib.Core.Path.{_≡_}
 use Rattle.ground.proofs.OneResult.{one}
@@ -33,5 +33,5 @@ order-number-one order r s = one
 pub longest-one : (kind : Kind) (r s : ℕ) → r ≡ longest kind → s ≡ longest kind → r ≡ s
 longest-one kind r s = one
 
-pub version-place-one : (type r s : ℕ) → (r ≡ versionPlace type) × (r ≤ 8) → (s ≡ versionPlace type) × (s ≤ 8) → r ≡ s
-version-place-one type r s p q = one (p .0) (q .0)
+pub version-place-one : (type r s : ℕ) → r ≡ versionPlace type → s ≡ versionPlace type → r ≡ s
+version-place-one type r s = one

@@ -206,7 +206,7 @@ fn data_judged(body: &[u8], typed: u8, asked: Order) -> Order
 
 // Where the version of a dump stands, one place before its data.
 pub fn version_place(typed: u8) -> usize
-    ensures { λ r. ⌜ (r ≡ versionPlace typed) × (r ≤ 8) ⌝ }
+    ensures { λ r. ⌜ r ≡ versionPlace typed ⌝ }
 {
     if typed == PROGRAM { 8 } else { 7 }
 }

@@ -8,10 +8,15 @@ use Rattle.ground.proofs.Lists.{to-end}
 use Rattle.halves.proofs.Laws.{join-leaves}
 use Rattle.kinds.proofs.AnyKind.{size-bounds}
 use Rattle.sysex.specs.Forms.{dataPlace}
+use Rattle.sysex.proofs.Judged.{version-low}
 use Rattle.carrying.proofs.Parts.{slots-inside, behind-start, other-length, stored-long, stored-short}
 use borrow.Author.Needs.{needs}
 use Rattle.carrying.proofs.store.Statement.{statement}
 use Rattle.carrying.proofs.store.Tie as tie
+
+add-from : tie.Need-add-from
+add-from c =
+    let low = version-low (c .before .before .before .before .before .args .typed) (c .version-place .result) (c .version-place .ensures) in search needs
 
 mul-place : tie.Need-mul-place
 mul-place c =
@@ -43,7 +48,7 @@ add-if1 c =
     let s = c .before .size in
     let p = c .before .before .before .before .before .pre in
     let inside = slots-inside (a .kind) (a .slot) (a .slots) (s .result) (now (a .memory)) (s .ensures) (p .0 .0) (p .1 .0) in
-    omega (arith, c .version-place .ensures .1)
+    omega (arith, version-low (a .typed) (c .version-place .result) (c .version-place .ensures))
 
 add-end : tie.Need-add-end
 add-end c =
@@ -73,8 +78,8 @@ returns c =
     let v = c .before .before .before .before .before .before .before .before .before .before .version-place in
     let from = v .result + 1 in
     let long = c .before .before .before .before .before .before .before .before .before .if1 .taken in
-    let joined = join-leaves _ _ _ _ (c .before .before .before .before .before .before .join-into .ensures) (simp (length-take, length-drop) (omega arith)) (rw (to-end from (now (a .body)), v .ensures .0) (p .0 .2 .1)) in
-    (refl, stored-long (a .kind) (a .typed) (a .slot) (a .slots) (s .result) from (now (a .body)) (now (a .memory)) (now (a .marks)) _ _ (s .ensures) (ap (λ (n : ℕ). n + 1) (v .ensures .0)) long joined (c .before .before .mark .ensures))
+    let joined = join-leaves _ _ _ _ (c .before .before .before .before .before .before .join-into .ensures) (simp (length-take, length-drop) (omega arith)) (rw (to-end from (now (a .body)), v .ensures) (p .0 .2 .1)) in
+    (refl, stored-long (a .kind) (a .typed) (a .slot) (a .slots) (s .result) from (now (a .body)) (now (a .memory)) (now (a .marks)) _ _ (s .ensures) (ap (λ (n : ℕ). n + 1) (v .ensures)) long joined (c .before .before .mark .ensures))
 
 sub-join-short : tie.Need-sub-join-short
 sub-join-short c =
@@ -84,7 +89,7 @@ sub-join-short c =
     let v = c .before .version-place in
     let from = v .result + 1 in
     let first = dataPlace (a .typed) in
-    let at-data = ap (λ (n : ℕ). n + 1) (v .ensures .0) in
+    let at-data = ap (λ (n : ℕ). n + 1) (v .ensures) in
     behind-start (a .kind) (a .slots) (s .result) from first (now (a .body)) (s .ensures) at-data (p .0 .2 .0)
 
 part-join-short-start : tie.Need-part-join-short-start
@@ -95,7 +100,7 @@ part-join-short-start c =
     let v = c .before .version-place in
     let from = v .result + 1 in
     let first = dataPlace (a .typed) in
-    let at-data = ap (λ (n : ℕ). n + 1) (v .ensures .0) in
+    let at-data = ap (λ (n : ℕ). n + 1) (v .ensures) in
     behind-start (a .kind) (a .slots) (s .result) from first (now (a .body)) (s .ensures) at-data (p .0 .2 .0)
 
 join-short-requires : tie.Need-join-short-requires
@@ -107,9 +112,9 @@ join-short-requires c κs =
     let v = c .before .before .before .version-place in
     let from = v .result + 1 in
     let first = dataPlace (a .typed) in
-    let at-data = ap (λ (n : ℕ). n + 1) (v .ensures .0) in (
+    let at-data = ap (λ (n : ℕ). n + 1) (v .ensures) in (
       (omega (arith, s .ensures, size-bounds (a .kind) .0), other-length (a .kind) (a .slots) (s .result) from first (now (a .body)) (s .ensures) at-data (p .0 .2 .0) (c .before .before .if1 .left)),
-      (rw (to-end from (now (a .body)), v .ensures .0) (p .0 .2 .1), inside .0),
+      (rw (to-end from (now (a .body)), v .ensures) (p .0 .2 .1), inside .0),
     )
 
 mark-requires-2 : tie.Need-mark-requires-2
@@ -121,7 +126,7 @@ returns-2 c =
     let s = c .before .before .before .before .before .before .before .before .before .before .before .size in
     let v = c .before .before .before .before .before .before .before .before .before .before .version-place in
     let from = v .result + 1 in
-    (refl, stored-short (a .kind) (a .typed) (a .slot) (a .slots) (s .result) from (now (a .body)) (now (a .memory)) (now (a .marks)) _ _ (s .ensures) (ap (λ (n : ℕ). n + 1) (v .ensures .0)) (c .before .before .before .before .before .before .before .before .before .if1 .left) (c .before .before .before .before .before .before .join-short .ensures) (c .before .before .mark2 .ensures))
+    (refl, stored-short (a .kind) (a .typed) (a .slot) (a .slots) (s .result) from (now (a .body)) (now (a .memory)) (now (a .marks)) _ _ (s .ensures) (ap (λ (n : ℕ). n + 1) (v .ensures)) (c .before .before .before .before .before .before .before .before .before .if1 .left) (c .before .before .before .before .before .before .join-short .ensures) (c .before .before .mark2 .ensures))
 
 pub store-spec : {M : Type 1} → statement M
 store-spec =
@@ -130,7 +135,7 @@ store-spec =
     (λ c κs. search needs)
     (λ c. search needs)
     (λ c κs. search needs)
-    (λ c. search needs)
+    add-from
     mul-place
     mul-count
     mul-if1

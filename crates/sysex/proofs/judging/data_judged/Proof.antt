@@ -9,13 +9,13 @@ use Rattle.sysex.proofs.judging.data_judged.Statement.{statement}
 use Rattle.sysex.proofs.judging.data_judged.Tie as tie
 
 returns : tie.Need-returns
-returns c = search (tests, ← c .before .before .version-place .ensures .0, ← c .before .byte-at .ensures)
+returns c = search (tests, ← c .before .before .version-place .ensures, ← c .before .byte-at .ensures)
 
 returns-2 : tie.Need-returns-2
-returns-2 c = let k = c .before .before .before in rw (← k .before .before .version-place .ensures .0, ← k .before .byte-at .ensures, eq-eqb _ 0 (k .if1 .left), ← to-end (k .before .before .version-place .result + 1) (now (k .before .before .before .before .args .body)), ← c .before .all-at-most .ensures, c .if2 .taken)
+returns-2 c = let k = c .before .before .before in rw (← k .before .before .version-place .ensures, ← k .before .byte-at .ensures, eq-eqb _ 0 (k .if1 .left), ← to-end (k .before .before .version-place .result + 1) (now (k .before .before .before .before .args .body)), ← c .before .all-at-most .ensures, c .if2 .taken)
 
 returns-3 : tie.Need-returns-3
-returns-3 c = let k = c .before .before .before in rw (← k .before .before .version-place .ensures .0, ← k .before .byte-at .ensures, eq-eqb _ 0 (k .if1 .left), ← to-end (k .before .before .version-place .result + 1) (now (k .before .before .before .before .args .body)), ← c .before .all-at-most .ensures, c .if2 .left)
+returns-3 c = let k = c .before .before .before in rw (← k .before .before .version-place .ensures, ← k .before .byte-at .ensures, eq-eqb _ 0 (k .if1 .left), ← to-end (k .before .before .version-place .result + 1) (now (k .before .before .before .before .args .body)), ← c .before .all-at-most .ensures, c .if2 .left)
 
 pub data-judged-spec : {M : Type 1} → statement M
 data-judged-spec =

@@ -4,7 +4,7 @@ use Rattle.sysex.proofs.judging.longest.Statement.{statement}
 use Rattle.sysex.proofs.judging.longest.Tie as tie
 
 returns : tie.Need-returns
-returns c = rw (c .data-count .ensures .0, c .before .version-place .ensures .0)
+returns c = rw (c .data-count .ensures .0, c .before .version-place .ensures)
 
 pub longest-spec : {M : Type 1} → statement M
 longest-spec =
