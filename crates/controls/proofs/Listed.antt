@@ -29,6 +29,13 @@ pub how-many : (length (controllersOf Pod) ≡ 49) × (length (controllersOf Pod
 unfolding rowOf table
 how-many = (refl, refl, refl)
 
+-- Each has one row: there are as many rows on a kind, so none is hidden behind another.
+pub one-row-each : (kind : Kind) → length (rows kind) ≡ length (controllersOf kind)
+unfolding rowOf table
+one-row-each Pod = refl
+one-row-each BassPod = refl
+one-row-each PodPro = refl
+
 -- "a controller not in the table or above 127": none above 127 is in it.
 pub above-127 : (kind : Kind) (controller : ℕ) → 127 < controller → rowOf kind controller .width ≡ 0
 unfolding table

@@ -1,7 +1,7 @@
 // The table of each kind of unit, row by row in the documents' order. The compiler makes columns of the arms; of constant
 // columns it would write out a copy at every call.
 ghost use mathlib.Core.Path.{_≡_};
-ghost use Rattle.kinds.specs.declared.Kind.the-variants.{Pod, BassPod, PodPro};
+ghost use Rattle.kinds.specs.declared.Kind.the-variants.{Pod, BassPod};
 ghost use Rattle.controls.specs.Table.{rowAs, rowOf, effectOf, selected};
 use crate::Row;
 use crate::formulas::AS_RECEIVED;
@@ -44,7 +44,8 @@ fn row(place: u8, width: u8, formula: u8, least: u8, highest: u8, effect: u8) ->
     }
 }
 
-// The row of a controller of a kind.
+// The row of a controller of a kind. A POD Pro has two rows of its own, and goes on as a POD: the POD's rows have one
+// caller, so that the compiler keeps them in this function.
 pub fn row_of(controller: u32, kind: Kind) -> Row
     ensures { λ r. ⌜ r ≡ rowOf kind controller ⌝ }
 {

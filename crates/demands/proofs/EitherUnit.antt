@@ -38,8 +38,9 @@ use Rattle.sysex.specs.declared.Settings.{Settings}
 use Rattle.sysex.specs.declared.Check.{Check}
 use Rattle.sysex.specs.declared.Order.{Order}
 use Rattle.sysex.specs.declared.Order.the-variants as order
-use Rattle.sysex.specs.Forms.{request, program, edit, bodyLength, isIdentity, dumpBody}
-use Rattle.sysex.specs.Judging.{judgedBy, hasForm, furtherTests, testsOf, orderOf, bodyOrder, judgeOf}
+use Rattle.sysex.specs.Forms.{opcodeOf, typeOf, programOf, bodyLength, isIdentity, dumpBody}
+use Rattle.sysex.specs.Judging.{judgedBy, hasForm, furtherTests, testsOf, bodyOrder, judgeOf}
+use Rattle.sysex.proofs.Numbered.{order-cases}
 use Rattle.carrying.specs.Carrying.{Outcome, refusing, orderDoes, bodyDoes}
 use Rattle.podbox.specs.Messages.{isController, isProgramChange, channelTests, controllerDoes, programChangeDoes, channelDoes, messageDoes}
 use Rattle.podbox.specs.declared.Move.{Move}
@@ -86,16 +87,9 @@ order-same settings player order.StoreAll body held not = refl
 order-same settings player (order.Refused check) body held not = refl
 
 -- what is no identity request is not judged to be one
-form-order : (opcode type number : ℕ) → NotIdentify (orderOf opcode type number)
-unfolding orderOf
-form-order opcode type number =
-    by NotIdentify (eqb opcode request) _ _
-    (λ _. by NotIdentify (eqb type program) _ _ (λ _. tt) (λ _. by NotIdentify (eqb type edit) _ _ (λ _. tt) (λ _. tt)))
-    (λ _. by NotIdentify (eqb type program) _ _ (λ _. tt) (λ _. by NotIdentify (eqb type edit) _ _ (λ _. tt) (λ _. tt)))
-
 not-identify : (tests : List (Test Check)) (body : List ℕ) → (AllHold tests → isIdentity body ≡ false) → NotIdentify (judgedBy tests (bodyOrder body))
 unfolding bodyOrder
-not-identify tests body other = tested-cases NotIdentify tests order.Refused (bodyOrder body) (λ all. rw (other all) (form-order _ _ _)) (λ _ _. tt)
+not-identify tests body other = tested-cases NotIdentify tests order.Refused (bodyOrder body) (λ all. rw (other all) (order-cases NotIdentify (opcodeOf body) (typeOf body) (programOf body) tt tt tt tt tt tt)) (λ _ _. tt)
 
 module _ (settings : Settings) (player : ℕ) (held : Held) where
   -- Every SysEx that is not an identity request does the same,
