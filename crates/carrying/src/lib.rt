@@ -145,7 +145,7 @@ fn store(
     let count = slots * size;
     if body.len() == from + 2 * count {
         let end = place + count;
-        halves::join_into(&body[from..], &mut memory[place..end]);
+        halves::join_any(&body[from..], &mut memory[place..end]);
         mark(slot, slots, 1, kind, marks);
         return Answer::Stored;
     }

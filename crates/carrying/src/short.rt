@@ -47,7 +47,7 @@ pub(crate) fn join_short(halves: &[u8], slots: usize, size: usize, place: usize,
     while 0 < left {
         let end = from + 2 * (size - 1);
         let spare = to + (size - 1);
-        halves::join_into(&halves[from..end], &mut memory[to..spare]);
+        halves::join_any(&halves[from..end], &mut memory[to..spare]);
         memory[spare] = 0;
         from = end;
         to = spare + 1;

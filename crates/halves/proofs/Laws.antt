@@ -12,8 +12,8 @@ use Rattle.ground.specs.Lists.{allAtMost}
 use Rattle.ground.proofs.Tests.{both, by}
 use Rattle.halves.specs.declared.Moved.{Moved}
 use Rattle.halves.specs.declared.Moved.the-variants.{Done}
-use Rattle.halves.specs.HalfBytes.{split, join, allHalves}
-use Rattle.halves.specs.Moving.{Filled, filled, movedNumber, fits, splitInto, joinInto}
+use Rattle.halves.specs.HalfBytes.{split, join, joinAny, allHalves}
+use Rattle.halves.specs.Moving.{Filled, filled, movedNumber, fits, splitInto, joinInto, joinAnyInto}
 
 whole : (x : ℕ) → x / 16 * 16 + x % 16 ≡ x
 whole x = omega arith
@@ -29,15 +29,20 @@ high-half high low p = omega arith
 low-half : (high low : ℕ) → low ≤ 15 → (high * 16 + low) % 16 ≡ low
 low-half high low p = omega arith
 
+-- the first two half bytes of a list, and the rest
+two-halves : (high low : ℕ) (xs : List ℕ) → allHalves (high ∷ low ∷ xs) ≡ true → (high ≤ 15) × (low ≤ 15) × (allHalves xs ≡ true)
+two-halves high low xs c =
+    let p = both (leb high 15) (leb low 15 && allHalves xs) c in
+    let q = both (leb low 15) (allHalves xs) (p .1) in
+    (leb-true high 15 (p .0), leb-true low 15 (q .0), q .1)
+
 -- splitting what was joined gives the half bytes back, where all are at most 0x0F and each has its partner
 pub split-join : (halves : List ℕ) (n : ℕ) → length halves ≡ 2 * n → allHalves halves ≡ true → split (join halves) ≡ halves
 split-join [] n e c = refl
 split-join (high ∷ []) n e c = absurd (omega arith)
 split-join (high ∷ low ∷ xs) n e c =
-    let p = both (leb high 15) (leb low 15 && allHalves xs) c in
-    let q = both (leb low 15) (allHalves xs) (p .1) in
-    let b = leb-true low 15 (q .0) in
-    rw (high-half high low b, low-half high low b, split-join xs (n - 1) (omega arith) (q .1))
+    let t = two-halves high low xs c in
+    rw (high-half high low (t .1), low-half high low (t .1), split-join xs (n - 1) (omega arith) (t .2))
 
 -- every half byte of a split is at most 0x0F
 pub split-halves : (bytes : List ℕ) → allAtMost 0xFF bytes ≡ true → allHalves (split bytes) ≡ true
@@ -52,11 +57,17 @@ pub join-bytes : (halves : List ℕ) → allHalves halves ≡ true → allAtMost
 join-bytes [] c = refl
 join-bytes (high ∷ []) c = refl
 join-bytes (high ∷ low ∷ xs) c =
-    let p = both (leb high 15) (leb low 15 && allHalves xs) c in
-    let q = both (leb low 15) (allHalves xs) (p .1) in
-    let h = leb-true high 15 (p .0) in
-    let l = leb-true low 15 (q .0) in
-    rw (le-leb (high * 16 + low) 255 (omega arith)) (join-bytes xs (q .1))
+    let t = two-halves high low xs c in
+    rw (le-leb (high * 16 + low) 255 (omega arith)) (join-bytes xs (t .2))
+
+-- any bytes that are half bytes are joined as half bytes are
+pub join-any-halves : (halves : List ℕ) → allHalves halves ≡ true → joinAny halves ≡ join halves
+join-any-halves [] c = refl
+join-any-halves (high ∷ []) c = refl
+join-any-halves (high ∷ low ∷ xs) c =
+    let t = two-halves high low xs c in
+    let byte : (high * 16 + low) % 256 ≡ high * 16 + low = omega arith in
+    rw (byte, join-any-halves xs (t .2))
 
 pub length-split : (bytes : List ℕ) → length (split bytes) ≡ 2 * length bytes
 length-split [] = refl
@@ -103,6 +114,15 @@ split-leaves bytes halves x r e h = ap (λ (l : Filled). l .buffer) (e ∙ split
 pub join-leaves : (halves bytes x : List ℕ) (r : Moved) → filled r x ≡ joinInto halves bytes → length halves ≡ 2 * length bytes → allHalves halves ≡ true
     → x ≡ join halves
 join-leaves halves bytes x r e h a = ap (λ (l : Filled). l .buffer) (e ∙ join-done halves bytes h a)
+
+-- where all are half bytes, joining without a look does what joining with one does
+pub join-any-same : (halves bytes : List ℕ) → allHalves halves ≡ true → joinAnyInto halves bytes ≡ joinInto halves bytes
+unfolding joinInto joinAnyInto
+join-any-same halves bytes h = rw (h, join-any-halves halves h)
+
+pub join-any-leaves : (halves bytes x : List ℕ) (r : Moved) → filled r x ≡ joinAnyInto halves bytes → length halves ≡ 2 * length bytes → allHalves halves ≡ true
+    → x ≡ join halves
+join-any-leaves halves bytes x r e h a = join-leaves halves bytes x r (e ∙ join-any-same halves bytes a) h a
 
 -- a refusal writes nothing
 pub join-refused : (halves bytes : List ℕ) → (movedNumber (joinInto halves bytes .answer) ≡ 0 → ⊥) → joinInto halves bytes .buffer ≡ bytes

@@ -6,7 +6,7 @@ use mathlib.Core.Path.{_≡_, ap}
 use Rattle.ground.specs.Lists.{allAtMost}
 use Rattle.ground.proofs.OneResult.{one}
 use Rattle.halves.specs.declared.Moved.{Moved}
-use Rattle.halves.specs.Moving.{Filled, filled, splitInto, joinInto}
+use Rattle.halves.specs.Moving.{Filled, filled, splitInto, joinInto, joinAnyInto}
 
 pub all-at-most-one : (list : List ℕ) (top : ℕ) (r s : Bool) → r ≡ allAtMost top list → s ≡ allAtMost top list → r ≡ s
 all-at-most-one list top r s = one
@@ -22,3 +22,7 @@ split-into-one bytes halves = moved-one (splitInto bytes halves)
 pub join-into-one : (halves bytes : List ℕ) (r s : Moved) (x y : List ℕ)
     → filled r x ≡ joinInto halves bytes → filled s y ≡ joinInto halves bytes → (r ≡ s) × (x ≡ y)
 join-into-one halves bytes = moved-one (joinInto halves bytes)
+
+pub join-any-one : (halves bytes : List ℕ) (r s : Moved) (x y : List ℕ)
+    → filled r x ≡ joinAnyInto halves bytes → filled s y ≡ joinAnyInto halves bytes → (r ≡ s) × (x ≡ y)
+join-any-one halves bytes = moved-one (joinAnyInto halves bytes)

@@ -9,11 +9,11 @@ use lib.Dec.{leb}
 use borrow.Author.Tests.{leb-true, leb-false, le-leb, lt-leb}
 use Rattle.ground.specs.Lists.{allAtMost}
 use Rattle.ground.proofs.Lists.{drop-one, drop-two, one-written}
-use Rattle.halves.specs.HalfBytes.{split, join}
+use Rattle.halves.specs.HalfBytes.{split, joinAny}
 
 pub join-turn : (bytes halves : List ℕ) (i j : ℕ) → i < length bytes → j + 1 < length halves
-    → take i bytes ++ join (drop j halves) ≡ join halves
-    → take (i + 1) (set bytes i (getD halves j 0 * 16 + getD halves (j + 1) 0)) ++ join (drop (j + 2) halves) ≡ join halves
+    → take i bytes ++ joinAny (drop j halves) ≡ joinAny halves
+    → take (i + 1) (set bytes i ((getD halves j 0 * 16 + getD halves (j + 1) 0) % 256)) ++ joinAny (drop (j + 2) halves) ≡ joinAny halves
 join-turn bytes halves i j hi hj inv = one-written bytes i _ _ hi ∙ (rw (drop-two halves j hj) at inv)
 
 pub split-turn : (bytes halves : List ℕ) (i j : ℕ) → i < length bytes → j + 1 < length halves
@@ -25,9 +25,9 @@ split-turn bytes halves i j hi hj inv =
     let e : j + 2 ≡ j + 1 + 1 = omega arith in
     rw e (one-written d (j + 1) _ _ h ∙ (one-written halves j _ _ (omega arith) ∙ (rw (drop-one bytes i hi) at inv)))
 
--- a number of two half bytes, times 4097: the high half, lifted by four bits, stands beside the low half
-pub joined-byte : (high low : ℕ) → high ≤ 15 → low ≤ 15 → (high + 256 * low) * 4097 / 256 % 256 ≡ high * 16 + low
-joined-byte high low h l =
+-- a number of two bytes, times 4097: the first, lifted by four bits, stands beside the second
+pub joined-byte : (high low : ℕ) → high ≤ 255 → (high + 256 * low) * 4097 / 256 % 256 ≡ (high * 16 + low) % 256
+joined-byte high low h =
     let e : (high + 256 * low) * 4097 / 256 ≡ high * 16 + low + 256 * (16 * low) = omega arith in
     rw e (omega arith)
 

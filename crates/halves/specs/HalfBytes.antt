@@ -15,6 +15,12 @@ join [] = []
 join (high ∷ []) = []
 join (high ∷ low ∷ xs) = (high * 16 + low) ∷ join xs
 
+-- any bytes read back, two by two, what is above a byte lost; of half bytes it is `join`
+abbrev pub joinAny : List ℕ → List ℕ
+joinAny [] = []
+joinAny (high ∷ []) = []
+joinAny (high ∷ low ∷ xs) = (high * 16 + low) % 256 ∷ joinAny xs
+
 -- no "data byte above 0x0F"
 abbrev pub allHalves : List ℕ → Bool
 allHalves xs = allAtMost 0x0F xs

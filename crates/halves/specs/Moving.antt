@@ -6,7 +6,7 @@ use lib.Dec.{eqb}
 use lib.ListN.{length}
 use Rattle.halves.specs.declared.Moved.{Moved}
 use Rattle.halves.specs.declared.Moved.the-variants.{Done, Misfit, Above}
-use Rattle.halves.specs.HalfBytes.{split, join, allHalves}
+use Rattle.halves.specs.HalfBytes.{split, join, joinAny, allHalves}
 
 -- the paper's number of each answer: 30 "a lent buffer too short" (or too long), 16 "a data byte above 0x0F", 0 for no refusal
 abbrev pub movedNumber : Moved → ℕ
@@ -36,3 +36,7 @@ joinInto halves bytes =
     cond (fits bytes halves)
     (cond (allHalves halves) (filled Done (join halves)) (filled Above bytes))
     (filled Misfit bytes)
+
+-- the bytes are those of any bytes, two by two, or untouched
+unfoldable pub joinAnyInto : List ℕ → List ℕ → Filled
+joinAnyInto halves bytes = cond (fits bytes halves) (filled Done (joinAny halves)) (filled Misfit bytes)

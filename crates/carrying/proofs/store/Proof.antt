@@ -5,7 +5,7 @@ use mathlib.Core.Path.{refl, ap}
 use native.Mathlib.Omega.{arith}
 use lib.ListN.{length-take, length-drop}
 use Rattle.ground.proofs.Lists.{to-end}
-use Rattle.halves.proofs.Laws.{join-leaves}
+use Rattle.halves.proofs.Laws.{join-any-leaves}
 use Rattle.kinds.proofs.AnyKind.{size-bounds}
 use Rattle.sysex.specs.Forms.{dataPlace}
 use Rattle.sysex.proofs.Judged.{version-low}
@@ -58,8 +58,8 @@ add-end c =
     let inside = slots-inside (a .kind) (a .slot) (a .slots) (s .result) (now (a .memory)) (s .ensures) (p .0 .0) (p .1 .0) in
     omega arith
 
-part-join-into-end-2 : tie.Need-part-join-into-end-2
-part-join-into-end-2 c =
+part-join-any-end-2 : tie.Need-part-join-any-end-2
+part-join-any-end-2 c =
     let a = c .before .before .before .before .before .before .before .args in
     let s = c .before .before .before .size in
     let p = c .before .before .before .before .before .before .before .pre in
@@ -78,7 +78,7 @@ returns c =
     let v = c .before .before .before .before .before .before .before .before .before .before .version-place in
     let from = v .result + 1 in
     let long = c .before .before .before .before .before .before .before .before .before .if1 .taken in
-    let joined = join-leaves _ _ _ _ (c .before .before .before .before .before .before .join-into .ensures) (simp (length-take, length-drop) (omega arith)) (rw (to-end from (now (a .body)), v .ensures) (p .0 .2 .1)) in
+    let joined = join-any-leaves _ _ _ _ (c .before .before .before .before .before .before .join-any .ensures) (simp (length-take, length-drop) (omega arith)) (rw (to-end from (now (a .body)), v .ensures) (p .0 .2 .1)) in
     (refl, stored-long (a .kind) (a .typed) (a .slot) (a .slots) (s .result) from (now (a .body)) (now (a .memory)) (now (a .marks)) _ _ (s .ensures) (ap (λ (n : ℕ). n + 1) (v .ensures)) long joined (c .before .before .mark .ensures))
 
 sub-join-short : tie.Need-sub-join-short
@@ -146,7 +146,7 @@ store-spec =
     (λ c. search needs)
     (λ c. search needs)
     (λ c. search needs)
-    part-join-into-end-2
+    part-join-any-end-2
     (λ c κs. search needs)
     mark-requires
     (λ c. search needs)

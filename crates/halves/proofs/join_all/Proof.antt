@@ -6,28 +6,21 @@ use mathlib.Core.List.{_++_}
 use native.Mathlib.Omega.{arith}
 use borrow.Author.Needs.{needs}
 use lib.ListN.{length, take, drop, length-set, drop-of-length-le}
-use Rattle.ground.proofs.Lists.{at-most-at, all-written}
-use Rattle.halves.specs.HalfBytes.{join}
+use Rattle.ground.proofs.Lists.{all-written}
+use Rattle.halves.specs.HalfBytes.{joinAny}
 use Rattle.halves.proofs.Turns.{join-turn}
 use Rattle.halves.proofs.join_all.Statement.{statement}
 use Rattle.halves.proofs.join_all.Tie as tie
 
 abbrev Inv-loop : tie.InvT-loop
 Inv-loop halves bytes₀ i₀ j₀ bytes i j =
-    (i ≤ length bytes) × (j ≡ i + i) × (length bytes ≡ length bytes₀) × (take i bytes ++ join (drop j halves) ≡ join halves)
+    (i ≤ length bytes) × (j ≡ i + i) × (length bytes ≡ length bytes₀) × (take i bytes ++ joinAny (drop j halves) ≡ joinAny halves)
 
 abbrev μ-loop : tie.MeasureT-loop
 μ-loop halves bytes₀ i₀ j₀ bytes i j = length bytes₀ - i
 
 loop-holds : tie.Need-loop-holds Inv-loop μ-loop
 loop-holds c = (search needs, search needs, refl, refl)
-
-joined-requires : tie.Need-joined-requires Inv-loop μ-loop
-joined-requires c κs =
-    let a = c .before .before .before .before .before .before in
-    let j = c .before .before .before .loop .j in
-    let half = at-most-at 15 (now (a .args .halves)) (a .pre .1) in
-    (half j, half (j + 1))
 
 loop-again : tie.Need-loop-again Inv-loop μ-loop
 loop-again c =
@@ -43,7 +36,7 @@ returns : tie.Need-returns Inv-loop μ-loop
 returns c =
     let l = c .before .loop in
     all-written (l .bytes) _ _ (l .i) (c .loop-test .left)
-    (ap join (drop-of-length-le (now (c .before .before .before .before .args .halves)) {i = l .j} (omega arith))) (l .inv .3)
+    (ap joinAny (drop-of-length-le (now (c .before .before .before .before .args .halves)) {i = l .j} (omega arith))) (l .inv .3)
 
 pub join-all-spec : {M : Type 1} → statement M
 join-all-spec =
@@ -55,7 +48,7 @@ join-all-spec =
     (λ c. search needs)
     (λ c. search needs)
     (λ c. search needs)
-    joined-requires
+    (λ c κs. search needs)
     (λ c. search needs)
     (λ c. search needs)
     (λ c. search needs)

@@ -6,7 +6,7 @@ use native.Mathlib.Omega.{arith}
 use lib.ListN.{length, drop, length-set}
 use Rattle.ground.proofs.AtMost.{at-most-take, at-most-drop}
 use Rattle.halves.specs.HalfBytes.{join}
-use Rattle.halves.proofs.Laws.{join-leaves}
+use Rattle.halves.proofs.Laws.{join-any-leaves}
 use Rattle.programs.specs.Memory.{putPart}
 use Rattle.programs.specs.Spares.{withSpares}
 use Rattle.carrying.proofs.Turns.{one-less, lent-fit, lent-back, join-turn, join-end}
@@ -37,11 +37,11 @@ add-end c = omega (arith, one-less (c .before .loop .left) (c .before .before .b
 add-spare : tie.Need-add-spare Inv-loop μ-loop
 add-spare c = omega (arith, one-less (c .before .loop .left) (c .before .before .before .before .args .size) (c .loop-test .taken))
 
-part-join-into-end : tie.Need-part-join-into-end Inv-loop μ-loop
-part-join-into-end c = omega (arith, one-less (c .before .loop .left) (c .before .before .before .before .args .size - 1) (c .loop-test .taken))
+part-join-any-end : tie.Need-part-join-any-end Inv-loop μ-loop
+part-join-any-end c = omega (arith, one-less (c .before .loop .left) (c .before .before .before .before .args .size - 1) (c .loop-test .taken))
 
-part-join-into-end-2 : tie.Need-part-join-into-end-2 Inv-loop μ-loop
-part-join-into-end-2 c = omega (arith, one-less (c .before .before .loop .left) (c .before .before .before .before .before .args .size) (c .before .loop-test .taken))
+part-join-any-end-2 : tie.Need-part-join-any-end-2 Inv-loop μ-loop
+part-join-any-end-2 c = omega (arith, one-less (c .before .before .loop .left) (c .before .before .before .before .before .args .size) (c .before .loop-test .taken))
 
 slice-write-memory : tie.Need-slice-write-memory Inv-loop μ-loop
 slice-write-memory c =
@@ -49,7 +49,7 @@ slice-write-memory c =
     let l = k .before .loop in
     let a = k .before .before .before .before .args in
     let long = one-less (l .left) (a .size) (k .loop-test .taken) in
-    let kept = lent-back (l .to) (a .size - 1) (c .before .before .join-into .last .1 .0) (l .memory) (omega arith) (c .before .before .join-into .kept .1 .0) in
+    let kept = lent-back (l .to) (a .size - 1) (c .before .before .join-any .last .1 .0) (l .memory) (omega arith) (c .before .before .join-any .kept .1 .0) in
     omega arith
 
 add-to : tie.Need-add-to Inv-loop μ-loop
@@ -68,8 +68,8 @@ loop-again c =
     let short = one-less (l .left) n (k .loop-test .taken) in
     let fit = lent-fit (l .to) (l .from) n (l .memory) (now (a .halves)) (omega arith) (omega arith) in
     let low = at-most-take 15 (l .from + 2 * n - l .from) (drop (l .from) (now (a .halves))) (at-most-drop 15 (l .from) (now (a .halves)) (s .pre .1 .0)) in
-    let bytes = join-leaves _ _ _ _ (c .before .before .join-into .ensures) fit low in
-    let kept = lent-back (l .to) n (c .before .before .join-into .last .1 .0) (l .memory) (omega arith) (c .before .before .join-into .kept .1 .0) in (
+    let bytes = join-any-leaves _ _ _ _ (c .before .before .join-any .ensures) fit low in
+    let kept = lent-back (l .to) n (c .before .before .join-any .last .1 .0) (l .memory) (omega arith) (c .before .before .join-any .kept .1 .0) in (
       omega arith,
       omega arith,
       simp length-set (kept ∙ l .inv .2),
@@ -95,10 +95,10 @@ join-short-spec =
     add-spare
     (λ c. search needs)
     (λ c. search needs)
-    part-join-into-end
+    part-join-any-end
     (λ c. search needs)
     (λ c. search needs)
-    part-join-into-end-2
+    part-join-any-end-2
     (λ c κs. search needs)
     slice-write-memory
     add-to
