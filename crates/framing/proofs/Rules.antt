@@ -1,7 +1,8 @@
 -- Rules that hold of any receiver, sound or not, as sentences of their own.
 use Prim.Native.Nat.{ℕ, _≤_, _<_}
-use mathlib.Core.Bool.{Bool, true, false, cond}
+use mathlib.Core.Bool.{Bool, true, false, false≢true, cond, not, _&&_}
 use mathlib.Core.Path.{_≡_, refl, sym, _∙_}
+use native.Mathlib.Omega.{arith}
 use lib.Dec.{ltb, eqb}
 use borrow.Author.Tests.{le-leb, lt-leb, le-ltb, ne-eqb, eqb-true}
 use Rattle.ground.proofs.Tests.{by}
@@ -11,12 +12,27 @@ use Rattle.framing.specs.declared.Event.{Event}
 use Rattle.framing.specs.declared.Event.the-variants.{Nothing, Collect}
 use Rattle.framing.specs.Receiver.{fresh, isOpen, isLong}
 use Rattle.framing.specs.Events.{eventNumber}
-use Rattle.framing.specs.Bytes.{stepTo, statusOf, finishedOf, stepOf}
+use Rattle.framing.specs.Bytes.{stepTo, isRealTime, statusOf, finishedOf, stepOf}
 
 -- "F8 to FF: reply number 0, and nothing changes, in the middle of a message too."
 pub real-time : (limit : ℕ) (r : Receiver) (byte : ℕ) → 0xF8 ≤ byte → stepOf limit r byte ≡ stepTo r Nothing
 unfolding stepOf
 real-time limit r byte h = rw (le-leb 0xF8 byte h)
+
+-- a data byte is no real-time byte, whichever is asked first
+pub no-real-time : (byte : ℕ) → byte < 0x80 → isRealTime byte ≡ false
+no-real-time byte h = lt-leb 0xF8 byte (omega arith)
+
+-- whether a data byte is the first of two, by whether its status takes one, and whether one waits
+pub first-of-two : (one waiting : Bool) → (not one && not waiting) ≡ true → (one ≡ false) × (waiting ≡ false)
+first-of-two true waiting e = absurd (false≢true e)
+first-of-two false true e = absurd (false≢true e)
+first-of-two false false e = (refl, refl)
+
+pub last-of-two : (one waiting : Bool) → (not one && not waiting) ≡ false → one ≡ false → waiting ≡ true
+last-of-two true waiting e f = absurd (false≢true (sym f))
+last-of-two false true e f = refl
+last-of-two false false e f = absurd (false≢true (sym e))
 
 -- what stands after a status byte does not depend on what it does besides
 picked : (t u : Bool) (x y z : Receiver) (event opening : Event)

@@ -1,7 +1,9 @@
-// What one byte does to a receiver: a function for each definition of the byte rules, with its tests in its order.
+// What one byte does to a receiver: a function for each definition of the byte rules. Whether a SysEx is open is asked
+// first, as `sound` asks it, so that the compiler asks it once.
 ghost use mathlib.Core.Path.{_≡_};
-ghost use Rattle.framing.specs.Receiver.{underOf, holdingOf, openedOf, takesOne};
-ghost use Rattle.framing.specs.Bytes.{stepTo, statusOf, addedOf, finishedOf, insideOf, dataOf, outsideOf, stepOf};
+ghost use mathlib.Core.Bool.{cond, not, _&&_};
+ghost use Rattle.framing.specs.Receiver.{underOf, holdingOf, openedOf, takesOne, waits};
+ghost use Rattle.framing.specs.Bytes.{stepTo, isRealTime, statusOf, addedOf, finishedOf, insideOf, dataOf, outsideOf, stepOf};
 use crate::Event;
 use crate::Receiver;
 use crate::Stepped;
@@ -136,12 +138,25 @@ fn finished(receiver: Receiver) -> Stepped
     }
 }
 
-// A byte below F8 inside a SysEx.
+// F8 to FF.
+fn real_time(receiver: Receiver) -> Stepped
+    ensures { λ s. ⌜ s ≡ stepTo receiver Event.Nothing ⌝ }
+{
+    Stepped {
+        receiver,
+        event: Event::Nothing,
+    }
+}
+
+// A byte inside a SysEx. Data bytes are asked for first, since most are.
 fn inside(receiver: Receiver, byte: u8, limit: u16) -> Stepped
-    ensures { λ s. ⌜ s ≡ insideOf limit receiver byte ⌝ }
+    ensures { λ s. ⌜ s ≡ cond (isRealTime byte) (stepTo receiver Event.Nothing) (insideOf limit receiver byte) ⌝ }
 {
     if byte < 0x80 {
         return added(receiver, limit);
+    }
+    if 0xF8 <= byte {
+        return real_time(receiver);
     }
     if byte == 0xF7 {
         return finished(receiver);
@@ -175,30 +190,47 @@ fn data_byte(receiver: Receiver, byte: u8) -> Stepped
     if status == 0 {
         return kept(receiver);
     }
+    if is_first(receiver) {
+        return Stepped {
+            receiver: holding(status, byte),
+            event: Event::Nothing,
+        };
+    }
     if takes_one(status) {
-        return Stepped {
-            receiver: under(status),
-            event: Event::Channel(status, byte, 0),
-        };
+        return message(status, byte, 0);
     }
-    if receiver.held == 1 {
-        return Stepped {
-            receiver: under(status),
-            event: Event::Channel(status, receiver.waiting, byte),
-        };
+    message(status, receiver.waiting, byte)
+}
+
+// Whether the next data byte is the first of two.
+fn is_first(receiver: Receiver) -> bool
+    ensures { λ t. ⌜ t ≡ (not (takesOne (receiver .running)) && not (waits receiver)) ⌝ }
+{
+    if takes_one(receiver.running) {
+        return false;
     }
+    receiver.held != 1
+}
+
+// A finished channel message.
+fn message(status: u8, first: u8, second: u8) -> Stepped
+    ensures { λ s. ⌜ s ≡ stepTo (underOf status) (Event.Channel status first second) ⌝ }
+{
     Stepped {
-        receiver: holding(status, byte),
-        event: Event::Nothing,
+        receiver: under(status),
+        event: Event::Channel(status, first, second),
     }
 }
 
-// A byte below F8 outside a SysEx.
+// A byte outside a SysEx.
 fn outside(receiver: Receiver, byte: u8) -> Stepped
-    ensures { λ s. ⌜ s ≡ outsideOf receiver byte ⌝ }
+    ensures { λ s. ⌜ s ≡ cond (isRealTime byte) (stepTo receiver Event.Nothing) (outsideOf receiver byte) ⌝ }
 {
     if byte < 0x80 {
         return data_byte(receiver, byte);
+    }
+    if 0xF8 <= byte {
+        return real_time(receiver);
     }
     status_byte(byte)
 }
@@ -207,12 +239,6 @@ fn outside(receiver: Receiver, byte: u8) -> Stepped
 pub fn step(receiver: Receiver, byte: u8, limit: u16) -> Stepped
     ensures { λ s. ⌜ s ≡ stepOf limit receiver byte ⌝ }
 {
-    if 0xF8 <= byte {
-        return Stepped {
-            receiver,
-            event: Event::Nothing,
-        };
-    }
     if receiver.inside == 1 {
         return inside(receiver, byte, limit);
     }

@@ -23,6 +23,12 @@ fn sound_open(receiver: Receiver, limit: u16) -> bool
     requires { ⌜ receiver .inside ≡ 1 ⌝ }
     ensures { λ t. ⌜ t ≡ soundOf limit receiver ⌝ }
 {
+    if receiver.stored < 1 {
+        return false;
+    }
+    if limit < receiver.stored {
+        return false;
+    }
     if receiver.running != 0 {
         return false;
     }
@@ -30,12 +36,6 @@ fn sound_open(receiver: Receiver, limit: u16) -> bool
         return false;
     }
     if receiver.waiting != 0 {
-        return false;
-    }
-    if receiver.stored < 1 {
-        return false;
-    }
-    if limit < receiver.stored {
         return false;
     }
     if receiver.over == 0 {

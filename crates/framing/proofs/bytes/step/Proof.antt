@@ -1,4 +1,4 @@
--- The tests are those of `stepOf`, in its order.
+-- The callees' answers: `stepOf` asks for real-time bytes before it asks whether a SysEx is open, they behind it.
 use Rattle.ground.proofs.Tests.{tests}
 use Rattle.framing.specs.Bytes.{stepOf}
 use borrow.Author.Needs.{needs}
@@ -10,8 +10,7 @@ unfolding stepOf
 step-spec =
     tie.close
     (tie.spec
-    (λ c. search tests)
     (λ c κs. search needs)
-    (λ c. search tests)
+    (λ c. search (tests, c .inside .ensures))
     (λ c κs. search needs)
-    (λ c. search tests))
+    (λ c. search (tests, c .outside .ensures)))
