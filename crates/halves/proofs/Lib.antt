@@ -1,3 +1,4 @@
 pub mod Turns
+pub mod Clear
 pub mod Laws
 pub mod OneResult

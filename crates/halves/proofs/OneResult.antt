@@ -11,6 +11,9 @@ use Rattle.halves.specs.Moving.{Filled, filled, splitInto, joinInto, joi
 pub all-at-most-one : (list : List ℕ) (top : ℕ) (r s : Bool) → r ≡ allAtMost top list → s ≡ allAtMost top list → r ≡ s
 all-at-most-one list top r s = one
 
+pub all-flags-one : (list : List ℕ) (r s : Bool) → r ≡ allAtMost 1 list → s ≡ allAtMost 1 list → r ≡ s
+all-flags-one list = all-at-most-one list 1
+
 -- the two results of a move: the answers and the buffers
 moved-one : (w : Filled) (r s : Moved) (x y : List ℕ) → filled r x ≡ w → filled s y ≡ w → (r ≡ s) × (x ≡ y)
 moved-one w r s x y p q = (ap (λ (l : Filled). l .answer) (one p q), ap (λ (l : Filled). l .buffer) (one p q))

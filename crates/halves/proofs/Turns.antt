@@ -37,11 +37,11 @@ larger-at-most top a b true true e f = let p = leb-true a top e in let q = leb-t
 larger-at-most top a b true false e f = let q = leb-false b top f in lt-leb (max a b) top (omega arith)
 larger-at-most top a b false v e f = let p = leb-false a top e in lt-leb (max a b) top (omega arith)
 
-and-assoc : (a b c : Bool) → ((a && b) && c) ≡ (a && (b && c))
+pub and-assoc : (a b c : Bool) → ((a && b) && c) ≡ (a && (b && c))
 and-assoc true b c = refl
 and-assoc false b c = refl
 
-and-true : (a : Bool) → (a && true) ≡ a
+pub and-true : (a : Bool) → (a && true) ≡ a
 and-true true = refl
 and-true false = refl
 

@@ -1,2 +1,3 @@
 pub mod HalfBytes
 pub mod Moving
+pub mod Private

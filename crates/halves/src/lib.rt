@@ -1,10 +1,13 @@
 // Bytes and half bytes, over any length.
+mod flags;
+
 ghost use mathlib.Core.Path.{_≡_};
 ghost use Prim.Native.Nat.{_*_, _+_, _%_, max};
 ghost use lib.ListN.{length};
 ghost use Rattle.ground.specs.Lists.{allAtMost};
 ghost use Rattle.halves.specs.HalfBytes.{split, joinAny};
 ghost use Rattle.halves.specs.Moving.{filled, splitInto, joinInto, joinAnyInto};
+pub use flags::all_flags;
 
 // How splitting or joining ended. Nothing is written unless it is `Done`.
 pub enum Moved {

@@ -43,7 +43,7 @@ pub(crate) fn are_marks(marks: &[u8]) -> bool
     requires { ⌜ HoldsMarks (now marks) ⌝ }
     ensures { λ r. ⌜ r ≡ areMarks (now (marks .entry)) ⌝ }
 {
-    halves::all_at_most(&marks[..MARKS], 1)
+    halves::all_flags(&marks[..MARKS])
 }
 
 pub(crate) fn are_valid(settings: Settings) -> bool

@@ -6,17 +6,17 @@ use borrow.Author.Needs.{needs}
 use Rattle.podbox.proofs.settings.are_marks.Statement.{statement}
 use Rattle.podbox.proofs.settings.are_marks.Tie as tie
 
-slice-aggregate-all-at-most : tie.Need-slice-aggregate-all-at-most
-slice-aggregate-all-at-most c = simp length-take (omega arith)
+slice-aggregate-all-flags : tie.Need-slice-aggregate-all-flags
+slice-aggregate-all-flags c = simp length-take (omega arith)
 
 returns : tie.Need-returns
 unfolding areMarks
-returns c = c .all-at-most .ensures
+returns c = c .all-flags .ensures
 
 pub are-marks-spec : {M : Type 1} → statement M
 are-marks-spec =
     tie.close
     (tie.spec
-    slice-aggregate-all-at-most
+    slice-aggregate-all-flags
     (λ c κs. search needs)
     returns)
