@@ -14,8 +14,8 @@ use borrow.Author.Tests.{eqb-true, eqb-false, eq-eqb, ne-eqb, leb-true, leb-fals
 use Rattle.ground.specs.Lists.{allAtMost}
 use Rattle.ground.proofs.AtMost.{at-most-drop}
 use Rattle.ground.proofs.Lists.{drop-one}
+use Rattle.ground.proofs.Tests.{and-assoc, and-true}
 use Rattle.halves.specs.Private.{flags, clear}
-use Rattle.halves.proofs.Turns.{and-assoc, and-true}
 
 -- a sum of a multiple and another number is 0 where both are
 no-sum : (a b p : ℕ) (u v : Bool) → 0 < p → eqb b 0 ≡ u → eqb a 0 ≡ v → eqb (a * p + b) 0 ≡ (u && v)

@@ -9,6 +9,7 @@ use lib.Dec.{leb}
 use borrow.Author.Tests.{leb-true, leb-false, le-leb, lt-leb}
 use Rattle.ground.specs.Lists.{allAtMost}
 use Rattle.ground.proofs.Lists.{drop-one, drop-two, one-written}
+use Rattle.ground.proofs.Tests.{and-assoc, and-true}
 use Rattle.halves.specs.HalfBytes.{split, joinAny}
 
 pub join-turn : (bytes halves : List ℕ) (i j : ℕ) → i < length bytes → j + 1 < length halves
@@ -36,14 +37,6 @@ larger-at-most : (top a b : ℕ) (u v : Bool) → leb a top ≡ u → leb b top 
 larger-at-most top a b true true e f = let p = leb-true a top e in let q = leb-true b top f in le-leb (max a b) top (omega arith)
 larger-at-most top a b true false e f = let q = leb-false b top f in lt-leb (max a b) top (omega arith)
 larger-at-most top a b false v e f = let p = leb-false a top e in lt-leb (max a b) top (omega arith)
-
-pub and-assoc : (a b c : Bool) → ((a && b) && c) ≡ (a && (b && c))
-and-assoc true b c = refl
-and-assoc false b c = refl
-
-pub and-true : (a : Bool) → (a && true) ≡ a
-and-true true = refl
-and-true false = refl
 
 -- The list is at most `top` where the largest number that was looked at is, and the rest: before the loop, after a turn, and at the end.
 pub look-begin : (top : ℕ) (list : List ℕ) → (leb 0 top && allAtMost top list) ≡ allAtMost top list

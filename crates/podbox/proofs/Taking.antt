@@ -1,13 +1,14 @@
--- A step of a sound receiver stays within the receive buffer, a socket is its sender's number, and a program change names a program.
+-- A step of a sound receiver stays within the receive buffer, a socket is its sender's number, a program change names a program, and a move's number is its answer.
 use Prim.Native.Nat.{ℕ, zero, suc, _/_, _≤_, _<_}
 use mathlib.Core.Bool.{true, _&&_}
+use mathlib.Core.List.{List}
 use mathlib.Core.Path.{_≡_, refl}
 use native.Mathlib.Omega.{arith}
 use Rattle.kinds.specs.declared.Kind.{Kind}
 use Rattle.kinds.specs.Kinds.{takesProgramChange}
 use Rattle.programs.specs.Memory.{programCount}
 use lib.Dec.{eqb, leb}
-use borrow.Author.Tests.{leb-true}
+use borrow.Author.Tests.{leb-true, ne-eqb}
 use Rattle.ground.proofs.Tests.{both}
 use Rattle.framing.specs.declared.Receiver.{Receiver}
 use Rattle.framing.specs.declared.Event.{Event}
@@ -17,9 +18,12 @@ use Rattle.framing.specs.Bytes.{stepOf}
 use Rattle.framing.proofs.Keeps.{collects-below, finishes-within}
 use Rattle.sockets.specs.Promise.{socketNumber, socketOf}
 use Rattle.sysex.proofs.Lengths.{longest-bounds}
-use Rattle.podbox.specs.Messages.{isProgramChange}
+use Rattle.controls.specs.Answers.{changeNumber}
+use Rattle.controls.specs.Applying.{applyOf}
+use Rattle.controls.proofs.Controllers.{apply-cases}
+use Rattle.podbox.specs.Messages.{isProgramChange, changeAnswer}
 use Rattle.podbox.specs.Box.{limit}
-use Rattle.podbox.specs.Private.{Within}
+use Rattle.podbox.specs.Private.{Within, numberAnswer}
 
 at-event : (kind : Kind) (event : Event) → ((place : ℕ) → event ≡ Collect place → place < limit kind) → ((count : ℕ) → event ≡ SysEx count → count ≤ limit kind) → Within kind event
 at-event kind Nothing below within = tt
@@ -54,3 +58,12 @@ change-numbered kind status number t =
     let q = both (eqb (status / 16) 0xC) (low && high) (p .1) in
     let r = both low high (q .1) in
     (leb-true _ _ (r .0), leb-true _ _ (r .1))
+
+-- a move's number says whether it was applied, and if not why not: no refusal has 1 or 3
+pub move-told : (kind : Kind) (controller value : ℕ) (edit : List ℕ)
+    → numberAnswer (changeNumber (applyOf kind controller value edit .answer)) ≡ changeAnswer (applyOf kind controller value edit .answer)
+move-told kind controller value edit =
+    apply-cases kind controller value edit (λ x. numberAnswer (changeNumber (x .answer)) ≡ changeAnswer (x .answer))
+    (λ _. refl)
+    (λ number low high. rw (ne-eqb number 1 (λ e. omega arith), ne-eqb number 3 (λ e. omega arith)))
+    (λ _ _. refl)

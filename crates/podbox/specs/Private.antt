@@ -1,6 +1,8 @@
 -- What private functions ask before they act on what a byte did, and a sound receiver gives. No promise rests on it.
 use Prim.Native.Nat.{ℕ, _≤_, _<_}
+use mathlib.Core.Bool.{cond}
 use mathlib.Core.List.{List}
+use lib.Dec.{eqb}
 use lib.ListN.{length}
 use Rattle.ground.specs.Tests.{tested}
 use Rattle.kinds.specs.declared.Kind.{Kind}
@@ -13,7 +15,7 @@ use Rattle.sockets.specs.Box.{Rules, Lent, took}
 use Rattle.sockets.specs.Promise.{socketOf, stepDoes}
 use Rattle.sysex.specs.declared.Settings.{Settings}
 use Rattle.sysex.specs.declared.Answer.{Answer}
-use Rattle.sysex.specs.declared.Answer.the-variants.{Taken}
+use Rattle.sysex.specs.declared.Answer.the-variants.{Taken, Stored, Applied}
 use Rattle.sysex.specs.Forms.{longest}
 use Rattle.sysex.specs.Numbers.{refused}
 use Rattle.podbox.specs.Box.{Took, limit, readyTests, lentTests, handedTests, memoryTests, plainAnswer, rulesWith}
@@ -52,3 +54,7 @@ readyDoes kind settings player byte entry =
 -- the last tests of a list of moves
 unfoldable pub kindAnswer : Kind → Settings → ℕ → Answer
 kindAnswer kind settings memory = tested (memoryTests kind settings memory) refused Taken
+
+-- what a channel message answers, of its number: 1 "stored", 3 "controller applied", or the refusal
+abbrev pub numberAnswer : ℕ → Answer
+numberAnswer number = cond (eqb number 1) Stored (cond (eqb number 3) Applied (refused number))

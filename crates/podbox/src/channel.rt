@@ -1,4 +1,5 @@
-// A finished channel message: 20, 21, then a controller, or a program, into the edit buffer of its sender.
+// A finished channel message: 20, 21, then a controller, or a program, into the edit buffer of its sender. It is answered
+// by its number: an answer would go through memory, and be taken apart there.
 ghost use mathlib.Core.Path.{_≡_};
 ghost use mathlib.Core.List.{List, []};
 ghost use Prim.Native.Nat.{ℕ, _≤_, _+_};
@@ -6,8 +7,9 @@ ghost use lib.ListN.{length};
 ghost use Rattle.ground.specs.Calls.{outcome};
 ghost use Rattle.programs.specs.Memory.{programCount, partOf, putPart};
 ghost use Rattle.programs.specs.Held.{heldOf};
-ghost use Rattle.podbox.specs.Messages.{isHeard, isController, isProgramChange, changeAnswer, controllerDoes, programChangeDoes, channelDoes};
-ghost use Rattle.podbox.specs.Private.{HoldsMemory};
+ghost use Rattle.controls.specs.Answers.{changeNumber};
+ghost use Rattle.podbox.specs.Messages.{isHeard, isController, isProgramChange, controllerDoes, programChangeDoes, channelDoes};
+ghost use Rattle.podbox.specs.Private.{HoldsMemory, numberAnswer};
 use controls::Change;
 use kinds::Kind;
 use programs::PROGRAMS;
@@ -22,20 +24,21 @@ pub(crate) fn channel(
     kind: Kind,
     settings: Settings,
     memory: &mut [u8],
-) -> Answer
+) -> u8
     requires { ⌜ HoldsMemory kind (now memory) ⌝ }
-    ensures { λ r. ⌜ ((marks : List ℕ) → outcome r (heldOf (now (memory .exit)) marks) [] ≡ channelDoes kind settings player status first second (heldOf (now (memory .entry)) marks)) ⌝ }
+    ensures { λ r. ⌜ ((marks : List ℕ) → outcome (numberAnswer r) (heldOf (now (memory .exit)) marks) [] ≡ channelDoes kind settings player status first second (heldOf (now (memory .entry)) marks)) ⌝ }
 {
     if is_heard(settings, status) {
         if is_controller(status) {
             return controller(first, second, player, kind, memory);
         }
         if is_program_change(status, first, kind) {
-            return change_program(first, player, kind, memory);
+            change_program(first, player, kind, memory);
+            return 1;
         }
-        return sysex::refused(21);
+        return 21;
     }
-    sysex::refused(20)
+    20
 }
 
 // On our channel, or any where omni is on.
@@ -79,35 +82,47 @@ pub(crate) fn controller(
     player: u32,
     kind: Kind,
     memory: &mut [u8],
-) -> Answer
+) -> u8
     requires { ⌜ HoldsMemory kind (now memory) ⌝ }
-    ensures { λ r. ⌜ ((marks : List ℕ) → outcome r (heldOf (now (memory .exit)) marks) [] ≡ controllerDoes kind player number value (heldOf (now (memory .entry)) marks)) ⌝ }
+    ensures { λ r. ⌜ ((marks : List ℕ) → outcome (numberAnswer r) (heldOf (now (memory .exit)) marks) [] ≡ controllerDoes kind player number value (heldOf (now (memory .entry)) marks)) ⌝ }
 {
     let place = programs::edit_place(kind, player);
     let end = place + kinds::size(kind) as usize;
     let change = controls::apply(number as u32, value as u32, kind, &mut memory[place..end]);
-    change_answer(change)
+    change_number(change)
 }
 
-fn change_answer(change: Change) -> Answer
-    ensures { λ r. ⌜ r ≡ changeAnswer change ⌝ }
+fn change_number(change: Change) -> u8
+    ensures { λ r. ⌜ r ≡ changeNumber change ⌝ }
 {
     match change {
-        Change::Applied => Answer::Applied,
-        Change::Refused(number) => sysex::refused(number),
+        Change::Applied => 3,
+        Change::Refused(number) => number,
     }
 }
 
+// The answer of a channel message's number.
+pub(crate) fn number_answer(number: u8) -> Answer
+    ensures { λ r. ⌜ r ≡ numberAnswer number ⌝ }
+{
+    if number == 1 {
+        return Answer::Stored;
+    }
+    if number == 3 {
+        return Answer::Applied;
+    }
+    sysex::refused(number)
+}
+
 // Programs are counted from 1 here.
-fn change_program(number: u8, player: u32, kind: Kind, memory: &mut [u8]) -> Answer
+fn change_program(number: u8, player: u32, kind: Kind, memory: &mut [u8])
     requires { ⌜ (1 ≤ number) × (number ≤ programCount) ⌝ }
     requires { ⌜ HoldsMemory kind (now memory) ⌝ }
-    ensures { λ r. ⌜ ((marks : List ℕ) → outcome r (heldOf (now (memory .exit)) marks) [] ≡ programChangeDoes kind player number (heldOf (now (memory .entry)) marks)) ⌝ }
+    ensures { λ _. ⌜ ((marks : List ℕ) → outcome Answer.Stored (heldOf (now (memory .exit)) marks) [] ≡ programChangeDoes kind player number (heldOf (now (memory .entry)) marks)) ⌝ }
 {
     let size = kinds::size(kind) as usize;
     let edit = programs::edit_place(kind, player);
     copy(memory, (number as usize - 1) * size, edit, size);
-    Answer::Stored
 }
 
 // Bytes of memory to a place behind them.

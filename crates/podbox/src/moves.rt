@@ -58,5 +58,6 @@ pub fn make_move(one: Move, player: u32, kind: Kind, memory: &mut [u8]) -> Answe
     if memory.len() < programs::memory_size(kind) {
         return sysex::refused(30);
     }
-    channel::controller(one.controller, one.value, player, kind, memory)
+    let number = channel::controller(one.controller, one.value, player, kind, memory);
+    channel::number_answer(number)
 }

@@ -137,13 +137,14 @@ fn take_ready(
     refused(receiver, 32)
 }
 
+// The receiver is asked last, just before its step: so the compiler asks once whether a SysEx is open.
 fn is_ready(receiver: Receiver, limit: u16, settings: Settings, marks: &[u8]) -> bool
     requires { ⌜ HoldsMarks (now marks) ⌝ }
     ensures { λ r. ⌜ r ≡ (soundOf limit receiver && (isValid settings && areMarks (now (marks .entry)))) ⌝ }
 {
-    if framing::sound(receiver, limit) {
-        if settings::are_valid(settings) {
-            return settings::are_marks(marks);
+    if settings::are_valid(settings) {
+        if settings::are_marks(marks) {
+            return framing::sound(receiver, limit);
         }
         return false;
     }
@@ -205,8 +206,11 @@ fn act(
             Took { receiver, answer }
         }
         Event::Channel(status, first, second) => {
-            let answer = channel::channel(status, first, second, player, kind, settings, memory);
-            Took { receiver, answer }
+            let number = channel::channel(status, first, second, player, kind, settings, memory);
+            Took {
+                receiver,
+                answer: channel::number_answer(number),
+            }
         }
     }
 }

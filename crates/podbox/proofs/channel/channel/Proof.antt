@@ -42,12 +42,11 @@ returns-3 c marks =
       h .if2 .left,
       ← c .before .before .is-program-change .ensures,
       c .before .if3 .left,
-      c .refused .ensures,
     )
 
 returns-4 : tie.Need-returns-4
 unfolding channelDoes
-returns-4 c marks = rw (← c .before .before .is-heard .ensures, c .before .if1 .left, c .refused2 .ensures)
+returns-4 c marks = rw (← c .before .before .is-heard .ensures, c .before .if1 .left)
 
 pub channel-spec : {M : Type 1} → statement M
 channel-spec =

@@ -9,17 +9,20 @@ use native.Mathlib.Omega.{arith}
 use Rattle.ground.specs.Calls.{outcome}
 use Rattle.kinds.specs.Kinds.{sizeOf}
 use Rattle.programs.specs.Memory.{editPlace, putPart}
-use Rattle.programs.specs.Held.{heldOf}
+use Rattle.programs.specs.Held.{heldOf, Edit, bytesIn, putIn}
+use Rattle.controls.specs.Answers.{changeNumber}
 use Rattle.controls.specs.Applying.{Changed, applyOf}
+use Rattle.sysex.specs.declared.Answer.{Answer}
 use Rattle.carrying.specs.Carrying.{Outcome}
-use Rattle.podbox.specs.Messages.{changeAnswer}
+use Rattle.podbox.specs.Private.{numberAnswer}
+use Rattle.podbox.proofs.Taking.{move-told}
 use borrow.Author.Needs.{needs}
 use Rattle.podbox.proofs.channel.controller.Statement.{statement}
 use Rattle.podbox.proofs.channel.controller.Tie as tie
 
 -- the edit buffer from a place on, changed
 abbrev put : List ℕ → List ℕ → ℕ → ℕ → Changed → Outcome
-put memory marks place count done = outcome (changeAnswer (done .answer)) (heldOf (putPart place (place + count - place) (done .edit) memory) marks) []
+put memory marks place count done = outcome (numberAnswer (changeNumber (done .answer))) (heldOf (putPart place (place + count - place) (done .edit) memory) marks) []
 
 part-apply-end : tie.Need-part-apply-end
 part-apply-end c = omega (arith, c .size .ensures, c .before .edit-place .ensures, c .before .before .before .pre)
@@ -31,13 +34,16 @@ returns c marks =
     let s = c .before .before .before .before .before .size in
     let place = e .ensures in
     let count = s .ensures in
-    rw (c .change-answer .ensures)
+    let held = heldOf (now (a .memory)) marks in
+    rw (c .change-number .ensures)
     (ap (put (now (a .memory)) marks (e .result) (s .result)) (c .before .before .before .apply .ensures)
     ∙ (λ i. put (now (a .memory)) marks (place i) (count i)
     (applyOf (a .kind) (a .number) (a .value) (take (place i + count i - place i) (drop (place i) (now (a .memory))))))
-    ∙ ap (λ (n : ℕ). outcome (changeAnswer (applyOf (a .kind) (a .number) (a .value) (take n (drop (editPlace (a .kind) (a .player)) (now (a .memory)))) .answer))
+    ∙ ap (λ (n : ℕ). outcome (numberAnswer (changeNumber (applyOf (a .kind) (a .number) (a .value) (take n (drop (editPlace (a .kind) (a .player)) (now (a .memory)))) .answer)))
     (heldOf (putPart (editPlace (a .kind) (a .player)) n (applyOf (a .kind) (a .number) (a .value) (take n (drop (editPlace (a .kind) (a .player)) (now (a .memory)))) .edit) (now (a .memory))) marks) [])
-    (add-sub-cancel-left (editPlace (a .kind) (a .player)) (sizeOf (a .kind))))
+    (add-sub-cancel-left (editPlace (a .kind) (a .player)) (sizeOf (a .kind)))
+    ∙ ap (λ (answer : Answer). outcome answer (putIn (a .kind) (a .player) Edit (applyOf (a .kind) (a .number) (a .value) (bytesIn (a .kind) (a .player) Edit held) .edit) held) [])
+    (move-told (a .kind) (a .number) (a .value) (bytesIn (a .kind) (a .player) Edit held)))
 
 pub controller-spec : {M : Type 1} → statement M
 controller-spec =
