@@ -2,6 +2,7 @@ pub mod Rows
 pub mod Listed
 pub mod Columns
 pub mod Smallest
+pub mod Ordered
 pub mod Bytes
 pub mod Back
 pub mod Controllers
