@@ -1,29 +1,29 @@
 -- The row's numbers are quotients.
-use Prim.Native.Nat.{_≤_}
+use Prim.Native.Nat.{ℕ, _/_, _≤_}
+use mathlib.Core.Path.{_≡_, sym}
 use native.Mathlib.Nat.{mul-le-mul}
 use native.Mathlib.Omega.{arith}
-use mathlib.Core.Path.{_≡_, sym, _∙_}
+use Rattle.controls.specs.declared.Row.{Row}
+use Rattle.controls.specs.Formulas.{numberFor}
+use Rattle.controls.specs.Private.{SaneForSome, divisorOf}
 use Rattle.controls.proofs.Columns.{quotient}
 use Rattle.controls.proofs.Smallest.{multiple-shown, multiple-refused}
 use borrow.Author.Needs.{needs}
 use Rattle.controls.proofs.formulas.multiple.Statement.{statement}
 use Rattle.controls.proofs.formulas.multiple.Tie as tie
 
-mul-v : tie.Need-mul-v
-mul-v c =
-    let stored : c .args .stored ≤ 0xFFFFFFFF = omega arith in
-    let divisor : c .args .divisor ≤ 0xFF = omega arith in
-    omega (arith, mul-le-mul stored divisor)
-
-returns : tie.Need-returns
-returns c =
-    let pre = c .before .before .pre in
-    sym (multiple-shown _ _ (λ v. quotient _ v (pre .0) (rw (pre .1) at (pre .2)) ∙ (rw (pre .1))) (pre .2) _ _ (c .if1 .taken))
-
-returns-2 : tie.Need-returns-2
-returns-2 c =
-    let pre = c .before .before .pre in
-    sym (multiple-refused _ _ (λ v. quotient _ v (pre .0) (rw (pre .1) at (pre .2)) ∙ (rw (pre .1))) (pre .2) _ _ (c .if1 .left))
+by-divisor : (r : Row) (d : ℕ) → SaneForSome r × (d ≡ divisorOf (r .formula)) × (1 ≤ d) → (v : ℕ) → numberFor r v ≡ v / d
+by-divisor r d pre v = rw (pre .1) (quotient r v (pre .0) (rw (pre .1) at (pre .2)))
 
 pub multiple-spec : {M : Type 1} → statement M
-multiple-spec = tie.close (tie.spec mul-v (λ c. search needs) (λ c. search needs) returns returns-2)
+multiple-spec =
+    tie.close
+    (tie.spec
+    (λ c.
+    let stored : c .args .stored ≤ 0xFFFFFFFF = omega arith in
+    let divisor : c .args .divisor ≤ 0xFF = omega arith in
+    omega (arith, mul-le-mul stored divisor))
+    (λ c. search needs)
+    (λ c. search needs)
+    (λ c. let pre = c .before .before .pre in sym (multiple-shown _ _ (by-divisor _ _ pre) (pre .2) _ _ (c .if1 .taken)))
+    (λ c. let pre = c .before .before .pre in sym (multiple-refused _ _ (by-divisor _ _ pre) (pre .2) _ _ (c .if1 .left))))
