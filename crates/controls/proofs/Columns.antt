@@ -1,12 +1,12 @@
 -- Laws of the sheet: its rule at each place, and which rows' numbers it has.
 use Prim.Native.Nat.{ℕ, _+_, _*_, _/_, _%_, _≤_, max}
-use mathlib.Core.Bool.{Bool, cond, not, _&&_}
-use mathlib.Core.Path.{_≡_, refl, _∙_}
+use mathlib.Core.Bool.{Bool, true, cond, not, _&&_}
+use mathlib.Core.Path.{_≡_, refl, sym, _∙_}
 use native.Mathlib.Omega.{arith}
 use lib.Dec.{eqb, leb}
 use lib.ListN.{getD}
-use borrow.Author.Tests.{eqb-true, leb-true, le-leb}
-use Rattle.ground.proofs.Tests.{both}
+use borrow.Author.Tests.{eqb-true, leb-true, le-leb, eq-eqb, ne-eqb}
+use Rattle.ground.proofs.Tests.{both, by}
 use Rattle.ground.proofs.InOrder.{tested-passed}
 use Rattle.ground.specs.Lists.{column}
 use Rattle.ground.proofs.Computed.{column-at, every-at}
@@ -14,11 +14,11 @@ use Rattle.kinds.specs.declared.Kind.{Kind}
 use Rattle.kinds.specs.declared.Kind.the-variants.{Pod}
 use Rattle.controls.specs.declared.Row.{Row}
 use Rattle.controls.specs.declared.Reading.the-variants.{Value, Refused}
-use Rattle.controls.specs.Formulas.{m-upper, m-lower, v×50, v×256/42, v×25, numberBy, numberFor}
+use Rattle.controls.specs.Formulas.{v/64, v/2, as-received, m-upper, m-lower, v/22, v×50, v×256/42, v×25, numberBy, numberFor}
 use Rattle.controls.specs.Table.{table, rowOf}
 use Rattle.controls.specs.Sheet.{columns, onSheet, sheetRule}
 use Rattle.controls.specs.Scaling.{scaleTests, scaleOf}
-use Rattle.controls.specs.Private.{SaneForSome}
+use Rattle.controls.specs.Private.{SaneForSome, divisorOf, columnOf}
 use Rattle.controls.proofs.Rows.{fact, row-sane}
 
 -- the rule at a column and a value
@@ -56,6 +56,38 @@ module _ (r : Row) (v number : ℕ) (sane : SaneForSome r) where
 -- Controllers with the same formula have the same number for a value, whatever their kinds.
 pub by-formula : (kind other : Kind) (a b v : ℕ) → rowOf kind a .formula ≡ rowOf other b .formula → numberFor (rowOf other b) v ≡ numberFor (rowOf kind a) v
 by-formula kind other a b v is = at-controller (rowOf kind a) v _ (kind, row-sane kind a) other b is refl
+
+-- A row whose formula divides has the quotients: none of these has a least number.
+quotient-by : (formula v : ℕ) → 1 ≤ divisorOf formula → max (numberBy formula v) (leastOf formula) ≡ v / divisorOf formula
+unfolding divisorOf numberBy rowOf table
+quotient-by formula v =
+    let Is : ℕ → Type 0 = λ divisor. 1 ≤ divisor → max (numberBy formula v) (leastOf formula) ≡ v / divisor in
+    by Is (eqb formula v/64) _ _ (λ is _. rw (eqb-true formula v/64 is) (omega arith)) (λ _.
+    by Is (eqb formula v/2) _ _ (λ is _. rw (eqb-true formula v/2 is) (omega arith)) (λ _.
+    by Is (eqb formula as-received) _ _ (λ is _. rw (eqb-true formula as-received is) (omega arith)) (λ _.
+    by Is (eqb formula v/22) _ _ (λ is _. rw (eqb-true formula v/22 is) (omega arith)) (λ _ h. absurd (omega arith)))))
+
+pub quotient : (r : Row) (v : ℕ) → SaneForSome r → 1 ≤ divisorOf (r .formula) → numberFor r v ≡ v / divisorOf (r .formula)
+quotient r v sane h = by-least r v sane ∙ quotient-by (r .formula) v h
+
+-- A row whose formula does not divide, and is not m's, has the formula of its column's controller.
+abbrev columned : Row → Bool
+columned r =
+    cond (eqb (divisorOf (r .formula)) 0)
+    (cond (eqb (r .formula) m-upper) true (cond (eqb (r .formula) m-lower) true (eqb (r .formula) (rowOf Pod (getD columns (columnOf (r .formula)) 0) .formula))))
+    true
+
+all-columned : (kind : Kind) (controller : ℕ) → columned (rowOf kind controller) ≡ true
+unfolding table rowOf divisorOf columnOf
+all-columned = fact (λ _. columned) refl
+
+pub on-column : (r : Row) (v : ℕ) → SaneForSome r → divisorOf (r .formula) ≡ 0 → (r .formula ≡ m-upper → ⊥) → (r .formula ≡ m-lower → ⊥)
+    → numberFor r v ≡ onSheet (columnOf (r .formula)) v
+on-column r v sane undivided not-upper not-lower =
+    let from = sane .1 .of-table in
+    let test : columned r ≡ true = rw (from .1) (all-columned (sane .0) (from .0)) in
+    let is = eqb-true _ _ (rw (eq-eqb _ _ undivided, ne-eqb _ _ not-upper, ne-eqb _ _ not-lower) at test) in
+    sym (at-controller r v _ sane Pod (getD columns (columnOf (r .formula)) 0) is refl)
 
 -- Scaling refuses no value of a column's controller.
 abbrev scales : Row → Bool
