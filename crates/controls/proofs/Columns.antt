@@ -1,7 +1,7 @@
 -- Laws of the sheet: its rule at each place, and which rows' numbers it has.
 use Prim.Native.Nat.{ℕ, _+_, _*_, _/_, _%_, _≤_, max}
-use mathlib.Core.Bool.{Bool, true, cond, not, _&&_}
-use mathlib.Core.Path.{_≡_, refl, sym, _∙_}
+use mathlib.Core.Bool.{Bool, true, false, cond, not, _&&_}
+use mathlib.Core.Path.{_≡_, refl, sym, ap, _∙_}
 use native.Mathlib.Omega.{arith}
 use lib.Dec.{eqb, leb}
 use lib.ListN.{getD}
@@ -14,7 +14,7 @@ use Rattle.kinds.specs.declared.Kind.{Kind}
 use Rattle.kinds.specs.declared.Kind.the-variants.{Pod}
 use Rattle.controls.specs.declared.Row.{Row}
 use Rattle.controls.specs.declared.Reading.the-variants.{Value, Refused}
-use Rattle.controls.specs.Formulas.{v/64, v/2, as-received, m-upper, m-lower, v/22, v×50, v×256/42, v×25, numberBy, numberFor}
+use Rattle.controls.specs.Formulas.{v/64, v/2, as-received, m-upper, m-lower, v/22, v×50, v×256/42, v×25, numberBy, numberFor, nextFor}
 use Rattle.controls.specs.Table.{table, rowOf}
 use Rattle.controls.specs.Sheet.{columns, onSheet, sheetRule}
 use Rattle.controls.specs.Scaling.{scaleTests, scaleOf}
@@ -69,6 +69,14 @@ quotient-by formula v =
 
 pub quotient : (r : Row) (v : ℕ) → SaneForSome r → 1 ≤ divisorOf (r .formula) → numberFor r v ≡ v / divisorOf (r .formula)
 quotient r v sane h = by-least r v sane ∙ quotient-by (r .formula) v h
+
+-- and is none of m's, so that what is stored does not matter
+divides : (formula other : ℕ) → 1 ≤ divisorOf formula → divisorOf other ≡ 0 → eqb formula other ≡ false
+divides formula other h none = ne-eqb formula other (λ is. let zero : divisorOf formula ≡ 0 = ap divisorOf is ∙ none in omega arith)
+
+pub next-quotient : (r : Row) (v stored : ℕ) → SaneForSome r → 1 ≤ divisorOf (r .formula) → nextFor r v stored ≡ v / divisorOf (r .formula)
+unfolding divisorOf nextFor
+next-quotient r v stored sane h = rw (divides (r .formula) m-upper h refl, divides (r .formula) m-lower h refl) (quotient r v sane h)
 
 -- A row whose formula does not divide, and is not m's, has the formula of its column's controller.
 abbrev columned : Row → Bool

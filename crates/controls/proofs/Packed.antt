@@ -1,0 +1,59 @@
+-- A row that was packed into one number is found in it again.
+use Prim.Native.Nat.{ℕ, _+_, _*_, _/_, _%_, _≤_, max}
+use mathlib.Core.Path.{_≡_, refl, sym, ap, _∙_}
+use native.Mathlib.Omega.{arith}
+use lib.Dec.{leb}
+use borrow.Author.Tests.{leb-true}
+use Rattle.kinds.specs.declared.Kind.{Kind}
+use Rattle.kinds.specs.Kinds.{highestModel}
+use Rattle.controls.specs.declared.Row.{Row}
+use Rattle.controls.specs.Table.{rowAs, table, rowOf}
+use Rattle.controls.specs.Private.{divisorOf, packedOf, rowIn, divisorIn}
+use Rattle.controls.proofs.Rows.{fact}
+
+-- the lowest byte of a number, and what stands above it
+low : (x y : ℕ) → x ≤ 255 → (x + 256 * y) % 256 ≡ x
+low x y h = omega arith
+
+above : (x y : ℕ) → x ≤ 255 → (x + 256 * y) / 256 ≡ y
+above x y h = omega arith
+
+-- each column of a row is a byte, and so is what its formula divides by
+abbrev largest : Row → ℕ
+largest r = max (r .place) (max (r .width) (max (r .formula) (max (r .least) (max (r .highest) (max (r .effect) (divisorOf (r .formula)))))))
+
+again : (r : Row) → largest r ≤ 255 → (rowIn (packedOf r) ≡ r) × (divisorIn (packedOf r) ≡ divisorOf (r .formula))
+unfolding packedOf rowIn divisorIn
+again r h =
+    let seventh = divisorOf (r .formula) in
+    let sixth = r .effect + 256 * seventh in
+    let fifth = r .highest + 256 * sixth in
+    let fourth = r .least + 256 * fifth in
+    let third = r .formula + 256 * fourth in
+    let second = r .width + 256 * third in
+    rw (
+      above (r .place) second (omega arith),
+      above (r .width) third (omega arith),
+      above (r .formula) fourth (omega arith),
+      above (r .least) fifth (omega arith),
+      above (r .highest) sixth (omega arith),
+      above (r .effect) seventh (omega arith),
+      low (r .place) second (omega arith),
+      low (r .width) third (omega arith),
+      low (r .formula) fourth (omega arith),
+      low (r .least) fifth (omega arith),
+      low (r .highest) sixth (omega arith),
+      low (r .effect) seventh (omega arith),
+    ) (refl, omega arith)
+
+-- of the number of a controller's row
+module _ (kind : Kind) (controller packed : ℕ) (is : packed ≡ packedOf (rowOf kind controller)) where
+  bytes : largest (rowOf kind controller) ≤ 255
+  unfolding table highestModel divisorOf
+  bytes = leb-true _ _ (fact (λ _ r. leb (largest r) 255) refl kind controller)
+
+  pub row-again : rowIn packed ≡ rowOf kind controller
+  row-again = ap rowIn is ∙ again (rowOf kind controller) bytes .0
+
+  pub divisor-again : divisorIn packed ≡ divisorOf (rowOf kind controller .formula)
+  divisor-again = ap divisorIn is ∙ again (rowOf kind controller) bytes .1
