@@ -1,15 +1,15 @@
 -- A row that was packed into one number is found in it again.
 use Prim.Native.Nat.{ℕ, _+_, _*_, _/_, _%_, _≤_, max}
-use mathlib.Core.Path.{_≡_, refl, sym, ap, _∙_}
+use mathlib.Core.Path.{_≡_, refl, ap, _∙_}
 use native.Mathlib.Omega.{arith}
 use lib.Dec.{leb}
 use borrow.Author.Tests.{leb-true}
 use Rattle.kinds.specs.declared.Kind.{Kind}
 use Rattle.kinds.specs.Kinds.{highestModel}
 use Rattle.controls.specs.declared.Row.{Row}
-use Rattle.controls.specs.Table.{rowAs, table, rowOf}
-use Rattle.controls.specs.Private.{divisorOf, packedOf, rowIn, divisorIn}
-use Rattle.controls.proofs.Rows.{fact}
+use Rattle.controls.specs.Table.{table, rowOf}
+use Rattle.controls.specs.Private.{Sane, divisorOf, packedOf, rowIn, divisorIn}
+use Rattle.controls.proofs.Rows.{fact, row-sane}
 
 -- the lowest byte of a number, and what stands above it
 low : (x y : ℕ) → x ≤ 255 → (x + 256 * y) % 256 ≡ x
@@ -46,14 +46,14 @@ again r h =
       low (r .effect) seventh (omega arith),
     ) (refl, omega arith)
 
--- of the number of a controller's row
-module _ (kind : Kind) (controller packed : ℕ) (is : packed ≡ packedOf (rowOf kind controller)) where
+-- What is found in the number of a controller's row.
+module _ (kind : Kind) (controller packed : ℕ) (r : Row) (divisor : ℕ) (is : packed ≡ packedOf (rowOf kind controller)) (from : (r ≡ rowIn packed) × (divisor ≡ divisorIn packed)) where
   bytes : largest (rowOf kind controller) ≤ 255
   unfolding table highestModel divisorOf
   bytes = leb-true _ _ (fact (λ _ r. leb (largest r) 255) refl kind controller)
 
-  pub row-again : rowIn packed ≡ rowOf kind controller
-  row-again = ap rowIn is ∙ again (rowOf kind controller) bytes .0
+  pub found-row : r ≡ rowOf kind controller
+  found-row = from .0 ∙ ap rowIn is ∙ again (rowOf kind controller) bytes .0
 
-  pub divisor-again : divisorIn packed ≡ divisorOf (rowOf kind controller .formula)
-  divisor-again = ap divisorIn is ∙ again (rowOf kind controller) bytes .1
+  pub found-sane : Sane kind r × (divisor ≡ divisorOf (r .formula))
+  found-sane = rw found-row (row-sane kind controller, from .1 ∙ ap divisorIn is ∙ again (rowOf kind controller) bytes .1)
