@@ -45,27 +45,29 @@ pub by-least : (r : Row) (v : ℕ) → SaneForSome r → numberFor r v ≡ max (
 unfolding numberFor
 by-least r v sane = let from = sane .1 .of-table in rw (from .1) (rw (least-of (sane .0) (from .0)))
 
-module _ (r : Row) (v number : ℕ) (sane : SaneForSome r) where
-  pub at-formula : (formula : ℕ) → r .formula ≡ formula → number ≡ max (numberBy formula v) (leastOf formula) → number ≡ numberFor r v
-  at-formula formula is e = e ∙ (rw (by-least r v sane, is))
-
-  pub at-controller : (kind : Kind) (controller : ℕ) → r .formula ≡ rowOf kind controller .formula
-      → number ≡ numberFor (rowOf kind controller) v → number ≡ numberFor r v
-  at-controller kind controller is e = at-formula (rowOf kind controller .formula) is (e ∙ by-least (rowOf kind controller) v (kind, row-sane kind controller))
+same-number : (r s : Row) (v : ℕ) → SaneForSome r → SaneForSome s → r .formula ≡ s .formula → numberFor r v ≡ numberFor s v
+same-number r s v sane other is = rw (by-least r v sane, by-least s v other, is)
 
 -- Controllers with the same formula have the same number for a value, whatever their kinds.
 pub by-formula : (kind other : Kind) (a b v : ℕ) → rowOf kind a .formula ≡ rowOf other b .formula → numberFor (rowOf other b) v ≡ numberFor (rowOf kind a) v
-by-formula kind other a b v is = at-controller (rowOf kind a) v _ (kind, row-sane kind a) other b is refl
+by-formula kind other a b v is = same-number (rowOf other b) (rowOf kind a) v (other, row-sane other b) (kind, row-sane kind a) (sym is)
 
--- A row whose formula divides has the quotients: none of these has a least number.
-quotient-by : (formula v : ℕ) → 1 ≤ divisorOf formula → max (numberBy formula v) (leastOf formula) ≡ v / divisorOf formula
-unfolding divisorOf numberBy rowOf table
-quotient-by formula v =
-    let Is : ℕ → Type 0 = λ divisor. 1 ≤ divisor → max (numberBy formula v) (leastOf formula) ≡ v / divisor in
-    by Is (eqb formula v/64) _ _ (λ is _. rw (eqb-true formula v/64 is) (omega arith)) (λ _.
-    by Is (eqb formula v/2) _ _ (λ is _. rw (eqb-true formula v/2 is) (omega arith)) (λ _.
-    by Is (eqb formula as-received) _ _ (λ is _. rw (eqb-true formula as-received is) (omega arith)) (λ _.
-    by Is (eqb formula v/22) _ _ (λ is _. rw (eqb-true formula v/22 is) (omega arith)) (λ _ h. absurd (omega arith)))))
+-- A row whose formula divides has the quotients: none of these formulas has a least number. By the tests of `divisorOf`, one after the other
+module _ (formula v : ℕ) where
+  abbrev Quotient : ℕ → Type 0
+  Quotient divisor = 1 ≤ divisor → max (numberBy formula v) (leastOf formula) ≡ v / divisor
+
+  divided : (key divisor rest : ℕ) → max (numberBy key v) (leastOf key) ≡ v / divisor → Quotient rest → Quotient (cond (eqb formula key) divisor rest)
+  divided key divisor rest here there = by Quotient (eqb formula key) divisor rest (λ is _. rw (eqb-true formula key is) here) (λ _. there)
+
+  quotient-by : Quotient (divisorOf formula)
+  unfolding divisorOf numberBy rowOf table
+  quotient-by =
+      divided v/64 64 _ (omega arith)
+      (divided v/2 2 _ (omega arith)
+      (divided as-received 1 _ (omega arith)
+      (divided v/22 22 _ (omega arith)
+      (λ h. absurd (omega arith)))))
 
 pub quotient : (r : Row) (v : ℕ) → SaneForSome r → 1 ≤ divisorOf (r .formula) → numberFor r v ≡ v / divisorOf (r .formula)
 quotient r v sane h = by-least r v sane ∙ quotient-by (r .formula) v h
@@ -95,7 +97,7 @@ on-column r v sane undivided not-upper not-lower =
     let from = sane .1 .of-table in
     let test : columned r ≡ true = rw (from .1) (all-columned (sane .0) (from .0)) in
     let is = eqb-true _ _ (rw (eq-eqb _ _ undivided, ne-eqb _ _ not-upper, ne-eqb _ _ not-lower) at test) in
-    sym (at-controller r v _ sane Pod (getD columns (columnOf (r .formula)) 0) is refl)
+    same-number r _ v sane (Pod, row-sane Pod (getD columns (columnOf (r .formula)) 0)) is
 
 -- Scaling refuses no value of a column's controller.
 abbrev scales : Row → Bool

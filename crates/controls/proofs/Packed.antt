@@ -12,11 +12,8 @@ use Rattle.controls.specs.Private.{Sane, divisorOf, packedOf, rowIn, div
 use Rattle.controls.proofs.Rows.{fact, row-sane}
 
 -- the lowest byte of a number, and what stands above it
-low : (x y : ℕ) → x ≤ 255 → (x + 256 * y) % 256 ≡ x
-low x y h = omega arith
-
-above : (x y : ℕ) → x ≤ 255 → (x + 256 * y) / 256 ≡ y
-above x y h = omega arith
+byte : (x y : ℕ) → x ≤ 255 → ((x + 256 * y) % 256 ≡ x) × ((x + 256 * y) / 256 ≡ y)
+byte x y h = (omega arith, omega arith)
 
 -- each column of a row is a byte, and so is what its formula divides by
 abbrev largest : Row → ℕ
@@ -25,26 +22,17 @@ largest r = max (r .place) (max (r .width) (max (r .formula) (max (r .least) (ma
 again : (r : Row) → largest r ≤ 255 → (rowIn (packedOf r) ≡ r) × (divisorIn (packedOf r) ≡ divisorOf (r .formula))
 unfolding packedOf rowIn divisorIn
 again r h =
-    let seventh = divisorOf (r .formula) in
-    let sixth = r .effect + 256 * seventh in
+    let sixth = r .effect + 256 * divisorOf (r .formula) in
     let fifth = r .highest + 256 * sixth in
     let fourth = r .least + 256 * fifth in
     let third = r .formula + 256 * fourth in
-    let second = r .width + 256 * third in
-    rw (
-      above (r .place) second (omega arith),
-      above (r .width) third (omega arith),
-      above (r .formula) fourth (omega arith),
-      above (r .least) fifth (omega arith),
-      above (r .highest) sixth (omega arith),
-      above (r .effect) seventh (omega arith),
-      low (r .place) second (omega arith),
-      low (r .width) third (omega arith),
-      low (r .formula) fourth (omega arith),
-      low (r .least) fifth (omega arith),
-      low (r .highest) sixth (omega arith),
-      low (r .effect) seventh (omega arith),
-    ) (refl, omega arith)
+    let place = byte (r .place) (r .width + 256 * third) (omega arith) in
+    let width = byte (r .width) third (omega arith) in
+    let formula = byte (r .formula) fourth (omega arith) in
+    let least = byte (r .least) fifth (omega arith) in
+    let highest = byte (r .highest) sixth (omega arith) in
+    let effect = byte (r .effect) (divisorOf (r .formula)) (omega arith) in
+    rw (place .1, width .1, formula .1, least .1, highest .1, effect .1, place .0, width .0, formula .0, least .0, highest .0, effect .0) (refl, omega arith)
 
 -- What is found in the number of a controller's row.
 module _ (kind : Kind) (controller packed : ℕ) (r : Row) (divisor : ℕ) (is : packed ≡ packedOf (rowOf kind controller)) (from : (r ≡ rowIn packed) × (divisor ≡ divisorIn packed)) where

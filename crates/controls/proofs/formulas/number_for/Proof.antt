@@ -1,5 +1,4 @@
 -- A quotient, or what stands in the column: the number of every row with that formula.
-use Prim.Native.Nat.{_≤_}
 use mathlib.Core.Path.{sym, _∙_}
 use native.Mathlib.Omega.{arith}
 use Rattle.controls.proofs.Columns.{quotient, on-column}
