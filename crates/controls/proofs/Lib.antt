@@ -1,4 +1,5 @@
 pub mod Rows
+pub mod Packed
 pub mod Listed
 pub mod Columns
 pub mod Smallest

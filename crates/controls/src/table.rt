@@ -3,7 +3,7 @@
 ghost use mathlib.Core.Path.{_≡_};
 ghost use Rattle.kinds.specs.declared.Kind.the-variants.{Pod, BassPod};
 ghost use Rattle.controls.specs.Table.{rowAs, rowOf, effectOf, selected};
-ghost use Rattle.controls.specs.Private.{divisorOf, packedOf, rowIn, divisorIn};
+ghost use Rattle.controls.specs.Private.{packedOf, rowIn, divisorIn};
 use crate::Row;
 use crate::formulas;
 use crate::formulas::AS_RECEIVED;
