@@ -25,5 +25,11 @@ multiple-spec =
     omega (arith, mul-le-mul stored divisor))
     (λ c. search needs)
     (λ c. search needs)
-    (λ c. let pre = c .before .before .pre in sym (multiple-shown _ _ (by-divisor _ _ pre) (pre .2) _ _ (c .if1 .taken)))
-    (λ c. let pre = c .before .before .pre in sym (multiple-refused _ _ (by-divisor _ _ pre) (pre .2) _ _ (c .if1 .left))))
+    (λ c.
+    let pre = c .before .before .pre in
+    let given = c .before .before .args in
+    sym (multiple-shown _ _ (by-divisor (given .row) (given .divisor) pre) (pre .2) (given .stored) (given .row .highest) (omega arith)))
+    (λ c.
+    let pre = c .before .before .pre in
+    let given = c .before .before .args in
+    sym (multiple-refused _ _ (by-divisor (given .row) (given .divisor) pre) (pre .2) (given .stored) (given .row .highest) (omega arith))))
