@@ -73,7 +73,7 @@ pub quotient : (r : Row) (v : ℕ) → SaneForSome r → 1 ≤ divisorOf (r .for
 quotient r v sane h = by-least r v sane ∙ quotient-by (r .formula) v h
 
 -- and is none of m's, so that what is stored does not matter
-divides : (formula other : ℕ) → 1 ≤ divisorOf formula → divisorOf other ≡ 0 → eqb formula other ≡ false
+pub divides : (formula other : ℕ) → 1 ≤ divisorOf formula → divisorOf other ≡ 0 → eqb formula other ≡ false
 divides formula other h none = ne-eqb formula other (λ is. let zero : divisorOf formula ≡ 0 = ap divisorOf is ∙ none in omega arith)
 
 pub next-quotient : (r : Row) (v stored : ℕ) → SaneForSome r → 1 ≤ divisorOf (r .formula) → nextFor r v stored ≡ v / divisorOf (r .formula)

@@ -1,6 +1,6 @@
 -- Laws of the search for the smallest value.
 use Prim.Native.Nat.{ℕ, zero, suc, _+_, _-_, _*_, _/_, _≤_, _<_}
-use mathlib.Core.Path.{_≡_, refl, sym, ap, _∙_}
+use mathlib.Core.Path.{_≡_, refl, sym, _∙_}
 use native.Mathlib.Nat.{lt-of-not-le, div-lt-iff-lt-mul, mul-div-cancel}
 use native.Mathlib.Omega.{arith}
 use mathlib.Core.Logic.{_⊎_, inl, inr}
@@ -14,6 +14,7 @@ use Rattle.controls.specs.Formulas.{m-upper, m-lower, numberFor, nextFor
 use Rattle.controls.specs.Showing.{smallest, shownOf}
 use Rattle.controls.specs.Private.{divisorOf}
 use Rattle.controls.specs.Meaning.{Gives, Smallest, NoneGives}
+use Rattle.controls.proofs.Columns.{divides}
 
 -- of n values that all give other numbers none is shown
 pub passed : (r : Row) (stored n m v : ℕ) → ((u : ℕ) → v ≤ u → u < v + n → numberFor r u ≡ stored → ⊥) → smallest r stored (n + m) v ≡ smallest r stored m (v + n)
@@ -60,9 +61,7 @@ module _ (r : Row) (d : ℕ) (quotient : (v : ℕ) → numberFor r v ≡ v / d) 
 -- and no formula of m divides
 pub divided-shown : (r : Row) (stored : ℕ) → 1 ≤ divisorOf (r .formula) → smallest r stored (r .highest + 1) 0 ≡ shownOf r stored
 unfolding shownOf divisorOf
-divided-shown r stored h =
-    let other : (formula : ℕ) → divisorOf formula ≡ 0 → r .formula ≡ formula → ⊥ = λ formula none e. let zero = ap divisorOf e ∙ none in omega arith in
-    rw (ne-eqb _ _ (other m-upper refl), ne-eqb _ _ (other m-lower refl))
+divided-shown r stored h = rw (divides (r .formula) m-upper h refl, divides (r .formula) m-lower h refl)
 
 -- rows with the same numbers show the same
 pub same-shown : (r s : Row) (stored count v : ℕ) → ((u : ℕ) → u < v + count → numberFor r u ≡ numberFor s u) → smallest r stored count v ≡ smallest s stored count v
