@@ -1,12 +1,12 @@
 -- Laws of the sheet: its rule at each place, and which rows' numbers it has.
 use Prim.Native.Nat.{ℕ, _+_, _*_, _/_, _%_, _≤_, max}
-use mathlib.Core.Bool.{Bool, cond, not, _&&_}
-use mathlib.Core.Path.{_≡_, refl, _∙_}
+use mathlib.Core.Bool.{Bool, true, false, cond, not, _&&_}
+use mathlib.Core.Path.{_≡_, refl, sym, ap, _∙_}
 use native.Mathlib.Omega.{arith}
 use lib.Dec.{eqb, leb}
 use lib.ListN.{getD}
-use borrow.Author.Tests.{eqb-true, leb-true, le-leb}
-use Rattle.ground.proofs.Tests.{both}
+use borrow.Author.Tests.{eqb-true, leb-true, le-leb, eq-eqb, ne-eqb}
+use Rattle.ground.proofs.Tests.{both, by}
 use Rattle.ground.proofs.InOrder.{tested-passed}
 use Rattle.ground.specs.Lists.{column}
 use Rattle.ground.proofs.Computed.{column-at, every-at}
@@ -14,11 +14,11 @@ use Rattle.kinds.specs.declared.Kind.{Kind}
 use Rattle.kinds.specs.declared.Kind.the-variants.{Pod}
 use Rattle.controls.specs.declared.Row.{Row}
 use Rattle.controls.specs.declared.Reading.the-variants.{Value, Refused}
-use Rattle.controls.specs.Formulas.{m-upper, m-lower, v×50, v×256/42, v×25, numberBy, numberFor}
+use Rattle.controls.specs.Formulas.{v/64, v/2, as-received, m-upper, m-lower, v/22, v×50, v×256/42, v×25, numberBy, numberFor, nextFor}
 use Rattle.controls.specs.Table.{table, rowOf}
 use Rattle.controls.specs.Sheet.{columns, onSheet, sheetRule}
 use Rattle.controls.specs.Scaling.{scaleTests, scaleOf}
-use Rattle.controls.specs.Private.{SaneForSome}
+use Rattle.controls.specs.Private.{SaneForSome, divisorOf, columnOf}
 use Rattle.controls.proofs.Rows.{fact, row-sane}
 
 -- the rule at a column and a value
@@ -45,17 +45,59 @@ pub by-least : (r : Row) (v : ℕ) → SaneForSome r → numberFor r v ≡ max (
 unfolding numberFor
 by-least r v sane = let from = sane .1 .of-table in rw (from .1) (rw (least-of (sane .0) (from .0)))
 
-module _ (r : Row) (v number : ℕ) (sane : SaneForSome r) where
-  pub at-formula : (formula : ℕ) → r .formula ≡ formula → number ≡ max (numberBy formula v) (leastOf formula) → number ≡ numberFor r v
-  at-formula formula is e = e ∙ (rw (by-least r v sane, is))
-
-  pub at-controller : (kind : Kind) (controller : ℕ) → r .formula ≡ rowOf kind controller .formula
-      → number ≡ numberFor (rowOf kind controller) v → number ≡ numberFor r v
-  at-controller kind controller is e = at-formula (rowOf kind controller .formula) is (e ∙ by-least (rowOf kind controller) v (kind, row-sane kind controller))
+same-number : (r s : Row) (v : ℕ) → SaneForSome r → SaneForSome s → r .formula ≡ s .formula → numberFor r v ≡ numberFor s v
+same-number r s v sane other is = rw (by-least r v sane, by-least s v other, is)
 
 -- Controllers with the same formula have the same number for a value, whatever their kinds.
 pub by-formula : (kind other : Kind) (a b v : ℕ) → rowOf kind a .formula ≡ rowOf other b .formula → numberFor (rowOf other b) v ≡ numberFor (rowOf kind a) v
-by-formula kind other a b v is = at-controller (rowOf kind a) v _ (kind, row-sane kind a) other b is refl
+by-formula kind other a b v is = same-number (rowOf other b) (rowOf kind a) v (other, row-sane other b) (kind, row-sane kind a) (sym is)
+
+-- A row whose formula divides has the quotients: none of these formulas has a least number. By the tests of `divisorOf`, one after the other
+module _ (formula v : ℕ) where
+  abbrev Quotient : ℕ → Type 0
+  Quotient divisor = 1 ≤ divisor → max (numberBy formula v) (leastOf formula) ≡ v / divisor
+
+  divided : (key divisor rest : ℕ) → max (numberBy key v) (leastOf key) ≡ v / divisor → Quotient rest → Quotient (cond (eqb formula key) divisor rest)
+  divided key divisor rest here there = by Quotient (eqb formula key) divisor rest (λ is _. rw (eqb-true formula key is) here) (λ _. there)
+
+  quotient-by : Quotient (divisorOf formula)
+  unfolding divisorOf numberBy rowOf table
+  quotient-by =
+      divided v/64 64 _ (omega arith)
+      (divided v/2 2 _ (omega arith)
+      (divided as-received 1 _ (omega arith)
+      (divided v/22 22 _ (omega arith)
+      (λ h. absurd (omega arith)))))
+
+pub quotient : (r : Row) (v : ℕ) → SaneForSome r → 1 ≤ divisorOf (r .formula) → numberFor r v ≡ v / divisorOf (r .formula)
+quotient r v sane h = by-least r v sane ∙ quotient-by (r .formula) v h
+
+-- and is none of m's, so that what is stored does not matter
+pub divides : (formula other : ℕ) → 1 ≤ divisorOf formula → divisorOf other ≡ 0 → eqb formula other ≡ false
+divides formula other h none = ne-eqb formula other (λ is. let zero : divisorOf formula ≡ 0 = ap divisorOf is ∙ none in omega arith)
+
+pub next-quotient : (r : Row) (v stored : ℕ) → SaneForSome r → 1 ≤ divisorOf (r .formula) → nextFor r v stored ≡ v / divisorOf (r .formula)
+unfolding divisorOf nextFor
+next-quotient r v stored sane h = rw (divides (r .formula) m-upper h refl, divides (r .formula) m-lower h refl) (quotient r v sane h)
+
+-- A row whose formula does not divide, and is not m's, has the formula of its column's controller.
+abbrev columned : Row → Bool
+columned r =
+    cond (eqb (divisorOf (r .formula)) 0)
+    (cond (eqb (r .formula) m-upper) true (cond (eqb (r .formula) m-lower) true (eqb (r .formula) (rowOf Pod (getD columns (columnOf (r .formula)) 0) .formula))))
+    true
+
+all-columned : (kind : Kind) (controller : ℕ) → columned (rowOf kind controller) ≡ true
+unfolding table rowOf divisorOf columnOf
+all-columned = fact (λ _. columned) refl
+
+pub on-column : (r : Row) (v : ℕ) → SaneForSome r → divisorOf (r .formula) ≡ 0 → (r .formula ≡ m-upper → ⊥) → (r .formula ≡ m-lower → ⊥)
+    → numberFor r v ≡ onSheet (columnOf (r .formula)) v
+on-column r v sane undivided not-upper not-lower =
+    let from = sane .1 .of-table in
+    let test : columned r ≡ true = rw (from .1) (all-columned (sane .0) (from .0)) in
+    let is = eqb-true _ _ (rw (eq-eqb _ _ undivided, ne-eqb _ _ not-upper, ne-eqb _ _ not-lower) at test) in
+    same-number r _ v sane (Pod, row-sane Pod (getD columns (columnOf (r .formula)) 0)) is
 
 -- Scaling refuses no value of a column's controller.
 abbrev scales : Row → Bool

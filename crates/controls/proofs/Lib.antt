@@ -1,7 +1,9 @@
 pub mod Rows
+pub mod Packed
 pub mod Listed
 pub mod Columns
 pub mod Smallest
+pub mod Ordered
 pub mod Bytes
 pub mod Back
 pub mod Controllers

@@ -3,8 +3,9 @@ ghost use mathlib.Core.Path.{_≡_};
 ghost use Prim.Native.Nat.{_≤_, _<_, _+_};
 ghost use lib.ListN.{length, getD};
 ghost use Rattle.controls.specs.Applying.{storeRow};
-ghost use Rattle.controls.specs.Private.{SaneForSome};
-ghost use Rattle.controls.specs.Fields.{readAt, putAt};
+ghost use Rattle.controls.specs.Formulas.{nextFor};
+ghost use Rattle.controls.specs.Private.{SaneForSome, divisorOf};
+ghost use Rattle.controls.specs.Fields.{readAt, putAt, numberIn};
 use crate::Row;
 use crate::formulas;
 
@@ -52,20 +53,28 @@ fn put(edit: &mut [u8], place: usize, width: u8, number: u32)
     edit[second + 1] = (number / 256 / 256 % 256) as u8;
 }
 
+// The number to store for a value. Only the formulas of m look at the one that stands there.
+fn next(row: Row, divisor: u8, value: u32, edit: &[u8]) -> u32
+    requires { ⌜ SaneForSome row × (divisor ≡ divisorOf (row .formula)) ⌝ }
+    requires { ⌜ (1 ≤ row .width) × (value ≤ 127) ⌝ }
+    requires { ⌜ row .place + row .width ≤ length (now edit) ⌝ }
+    ensures { λ r. ⌜ r ≡ nextFor row value (numberIn row (now (edit .entry))) ⌝ }
+{
+    if divisor == 0 {
+        let stored = read(edit, row.place as usize, row.width);
+        return formulas::next(row, divisor, value as u16, stored);
+    }
+    value / divisor as u32
+}
+
 // The row's number for a value into the row's bytes.
-pub(crate) fn store(row: Row, value: u32, edit: &mut [u8])
-    requires { ⌜ SaneForSome row ⌝ }
+pub(crate) fn store(row: Row, divisor: u8, value: u32, edit: &mut [u8])
+    requires { ⌜ SaneForSome row × (divisor ≡ divisorOf (row .formula)) ⌝ }
     requires { ⌜ 1 ≤ row .width ⌝ }
     requires { ⌜ value ≤ 127 ⌝ }
     requires { ⌜ row .place + row .width ≤ length (now edit) ⌝ }
     ensures { λ _. ⌜ now (edit .exit) ≡ storeRow row value (now (edit .entry)) ⌝ }
 {
-    let place = row.place as usize;
-    let stored = read(edit, place, row.width);
-    put(
-        edit,
-        place,
-        row.width,
-        formulas::next(row, value as u16, stored),
-    );
+    let number = next(row, divisor, value, edit);
+    put(edit, row.place as usize, row.width, number);
 }

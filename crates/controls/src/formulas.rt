@@ -1,11 +1,12 @@
 // The formulas, and the way back from a stored number.
 ghost use mathlib.Core.Path.{_≡_};
 ghost use Prim.Native.Nat.{_≤_, _+_};
-ghost use Rattle.controls.specs.Formulas.{numberFor, mOf, nextFor};
-ghost use Rattle.controls.specs.Private.{SaneForSome};
+ghost use Rattle.controls.specs.Formulas.{m-upper, m-lower, numberFor, mOf, nextFor};
+ghost use Rattle.controls.specs.Private.{SaneForSome, divisorOf, columnOf};
 ghost use Rattle.controls.specs.Showing.{smallest, sevenBits, shownOf};
 use crate::Reading;
 use crate::Row;
+use crate::sheet::first_on_sheet;
 use crate::sheet::on_sheet;
 
 pub(crate) const V_64: u8 = 0;
@@ -32,44 +33,44 @@ pub(crate) const V_22_100: u8 = 10;
 
 pub(crate) const V_25: u8 = 11;
 
-// The row's number for v: by its formula, or from its formula's column of the sheet.
-pub(crate) fn number_for(row: Row, v: u16) -> u16
-    requires { ⌜ SaneForSome row ⌝ }
+// What a formula divides by; 0 where it does not divide.
+pub(crate) fn divisor_of(formula: u8) -> u8
+    ensures { λ r. ⌜ r ≡ divisorOf formula ⌝ }
+{
+    match formula {
+        V_64 => 64,
+        V_2 => 2,
+        AS_RECEIVED => 1,
+        V_22 => 22,
+        _ => 0,
+    }
+}
+
+// The formula's column of the sheet, of those that have one.
+fn column_of(formula: u8) -> usize
+    ensures { λ r. ⌜ (r ≡ columnOf formula) × (r ≤ 5) ⌝ }
+{
+    match formula {
+        V_50 => 1,
+        V_256_104 => 2,
+        V_256_42 => 3,
+        V_22_100 => 4,
+        V_25 => 5,
+        _ => 0,
+    }
+}
+
+// The row's number for v: a quotient, or from its formula's column of the sheet.
+pub(crate) fn number_for(row: Row, divisor: u8, v: u16) -> u16
+    requires { ⌜ SaneForSome row × (divisor ≡ divisorOf (row .formula)) ⌝ }
+    requires { ⌜ (row .formula ≡ m-upper → ⊥) × (row .formula ≡ m-lower → ⊥) ⌝ }
     requires { ⌜ v ≤ 127 ⌝ }
     ensures { λ r. ⌜ r ≡ numberFor row v ⌝ }
 {
-    let formula = row.formula;
-    if formula == V_64 {
-        return v / 64;
+    if divisor == 0 {
+        return on_sheet(column_of(row.formula), v);
     }
-    if formula == V_2 {
-        return v / 2;
-    }
-    if formula == AS_RECEIVED {
-        return v;
-    }
-    if formula == THRESHOLD {
-        return on_sheet(0, v);
-    }
-    if formula == V_22 {
-        return v / 22;
-    }
-    if formula == V_50 {
-        return on_sheet(1, v);
-    }
-    if formula == V_256_104 {
-        return on_sheet(2, v);
-    }
-    if formula == V_256_42 {
-        return on_sheet(3, v);
-    }
-    if formula == V_22_100 {
-        return on_sheet(4, v);
-    }
-    if formula == V_25 {
-        return on_sheet(5, v);
-    }
-    0
+    v / divisor as u16
 }
 
 // m of a stored number.
@@ -81,8 +82,8 @@ fn m_of(stored: u32) -> u32
 }
 
 // The number to store for v where `stored` stands.
-pub(crate) fn next(row: Row, v: u16, stored: u32) -> u32
-    requires { ⌜ SaneForSome row ⌝ }
+pub(crate) fn next(row: Row, divisor: u8, v: u16, stored: u32) -> u32
+    requires { ⌜ SaneForSome row × (divisor ≡ divisorOf (row .formula)) ⌝ }
     requires { ⌜ v ≤ 127 ⌝ }
     ensures { λ r. ⌜ r ≡ nextFor row v stored ⌝ }
 {
@@ -93,12 +94,35 @@ pub(crate) fn next(row: Row, v: u16, stored: u32) -> u32
     if row.formula == M_LOWER {
         return 6 * (m / 128 * 128 + v as u32);
     }
-    number_for(row, v) as u32
+    number_for(row, divisor, v) as u32
 }
 
 // The value that shows a stored number.
-pub(crate) fn shown(row: Row, stored: u32) -> Reading
-    requires { ⌜ SaneForSome row ⌝ }
+pub(crate) fn shown(row: Row, divisor: u8, stored: u32) -> Reading
+    requires { ⌜ SaneForSome row × (divisor ≡ divisorOf (row .formula)) ⌝ }
+    ensures { λ r. ⌜ r ≡ shownOf row stored ⌝ }
+{
+    if divisor == 0 {
+        return shown_undivided(row, stored);
+    }
+    multiple(row, divisor, stored)
+}
+
+// The smallest value of a quotient is the divisor that many times.
+fn multiple(row: Row, divisor: u8, stored: u32) -> Reading
+    requires { ⌜ SaneForSome row × (divisor ≡ divisorOf (row .formula)) × (1 ≤ divisor) ⌝ }
+    ensures { λ r. ⌜ r ≡ smallest row stored (row .highest + 1) 0 ⌝ }
+{
+    let v = stored as u64 * divisor as u64;
+    if v <= row.highest as u64 {
+        return Reading::Value(v as u16);
+    }
+    Reading::Refused(40)
+}
+
+// By the formulas of m, or from the sheet.
+fn shown_undivided(row: Row, stored: u32) -> Reading
+    requires { ⌜ SaneForSome row × (divisorOf (row .formula) ≡ 0) ⌝ }
     ensures { λ r. ⌜ r ≡ shownOf row stored ⌝ }
 {
     let m = m_of(stored);
@@ -108,7 +132,7 @@ pub(crate) fn shown(row: Row, stored: u32) -> Reading
     if row.formula == M_LOWER {
         return seven_bits(stored, m, m % 128);
     }
-    first(row, stored)
+    first_on_sheet(column_of(row.formula), stored)
 }
 
 // Seven bits of m, where the stored number is 6 x m.
@@ -119,22 +143,6 @@ fn seven_bits(stored: u32, m: u32, bits: u32) -> Reading
 {
     if stored == 6 * m {
         return Reading::Value(bits as u16);
-    }
-    Reading::Refused(40)
-}
-
-// The first value up to the row's highest that gives the stored number.
-fn first(row: Row, stored: u32) -> Reading
-    requires { ⌜ SaneForSome row ⌝ }
-    ensures { λ r. ⌜ r ≡ smallest row stored (row .highest + 1) 0 ⌝ }
-{
-    let highest = row.highest as u16;
-    let mut v = 0;
-    while v <= highest {
-        if number_for(row, v) as u32 == stored {
-            return Reading::Value(v);
-        }
-        v += 1;
     }
     Reading::Refused(40)
 }

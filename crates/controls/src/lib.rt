@@ -7,7 +7,7 @@ mod table;
 use kinds::Kind;
 pub use table::row_of;
 ghost use mathlib.Core.Path.{_≡_};
-ghost use Rattle.controls.specs.Private.{Sane, SaneForSome};
+ghost use Rattle.controls.specs.Private.{Sane, SaneForSome, divisorOf};
 ghost use Rattle.controls.specs.Scaling.{scaleRow, scaleOf};
 ghost use Rattle.controls.specs.Applying.{changed, applyRow, applyOf};
 ghost use Rattle.controls.specs.Showing.{backRow, backOf};
@@ -38,12 +38,13 @@ pub enum Reading {
 pub fn scale(controller: u32, value: u32, kind: Kind) -> Reading
     ensures { λ r. ⌜ r ≡ scaleOf kind controller value ⌝ }
 {
-    let row = row_of(controller, kind);
-    scale_row(row, value)
+    let found = table::unpacked(table::packed_row(controller, kind));
+    let row = found.row;
+    scale_row(row, found.divisor, value)
 }
 
-fn scale_row(row: Row, value: u32) -> Reading
-    requires { ⌜ SaneForSome row ⌝ }
+fn scale_row(row: Row, divisor: u8, value: u32) -> Reading
+    requires { ⌜ SaneForSome row × (divisor ≡ divisorOf (row .formula)) ⌝ }
     ensures { λ r. ⌜ r ≡ scaleRow row value ⌝ }
 {
     if row.width == 0 {
@@ -59,19 +60,20 @@ fn scale_row(row: Row, value: u32) -> Reading
     if highest < value {
         return Reading::Refused(18);
     }
-    Reading::Value(formulas::number_for(row, value as u16))
+    Reading::Value(formulas::number_for(row, divisor, value as u16))
 }
 
 // The controller's number for a value into its bytes of the edit buffer.
 pub fn apply(controller: u32, value: u32, kind: Kind, edit: &mut [u8]) -> Change
     ensures { λ r. ⌜ changed r (now (edit .exit)) ≡ applyOf kind controller value (now (edit .entry)) ⌝ }
 {
-    let row = row_of(controller, kind);
-    apply_row(row, value, kind, edit)
+    let found = table::unpacked(table::packed_row(controller, kind));
+    let row = found.row;
+    apply_row(row, found.divisor, value, kind, edit)
 }
 
-fn apply_row(row: Row, value: u32, kind: Kind, edit: &mut [u8]) -> Change
-    requires { ⌜ Sane kind row ⌝ }
+fn apply_row(row: Row, divisor: u8, value: u32, kind: Kind, edit: &mut [u8]) -> Change
+    requires { ⌜ Sane kind row × (divisor ≡ divisorOf (row .formula)) ⌝ }
     ensures { λ r. ⌜ changed r (now (edit .exit)) ≡ applyRow kind row value (now (edit .entry)) ⌝ }
 {
     if edit.len() < kinds::size(kind) as usize {
@@ -85,7 +87,7 @@ fn apply_row(row: Row, value: u32, kind: Kind, edit: &mut [u8]) -> Change
         return Change::Refused(18);
     }
     if table::is_selected(row.effect, edit[46]) {
-        fields::store(row, value, edit);
+        fields::store(row, divisor, value, edit);
         return Change::Applied;
     }
     Change::Refused(19)
@@ -95,12 +97,13 @@ fn apply_row(row: Row, value: u32, kind: Kind, edit: &mut [u8]) -> Change
 pub fn show_back(controller: u32, kind: Kind, edit: &[u8]) -> Reading
     ensures { λ r. ⌜ r ≡ backOf kind controller (now (edit .entry)) ⌝ }
 {
-    let row = row_of(controller, kind);
-    back_row(row, kind, edit)
+    let found = table::unpacked(table::packed_row(controller, kind));
+    let row = found.row;
+    back_row(row, found.divisor, kind, edit)
 }
 
-fn back_row(row: Row, kind: Kind, edit: &[u8]) -> Reading
-    requires { ⌜ Sane kind row ⌝ }
+fn back_row(row: Row, divisor: u8, kind: Kind, edit: &[u8]) -> Reading
+    requires { ⌜ Sane kind row × (divisor ≡ divisorOf (row .formula)) ⌝ }
     ensures { λ r. ⌜ r ≡ backRow kind row (now (edit .entry)) ⌝ }
 {
     if edit.len() < kinds::size(kind) as usize {
@@ -112,7 +115,7 @@ fn back_row(row: Row, kind: Kind, edit: &[u8]) -> Reading
     let byte46 = edit[46];
     if table::is_selected(row.effect, byte46) {
         let stored = fields::read(edit, row.place as usize, row.width);
-        return formulas::shown(row, stored);
+        return formulas::shown(row, divisor, stored);
     }
     Reading::Refused(19)
 }

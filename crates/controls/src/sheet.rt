@@ -1,7 +1,10 @@
 // The sheet on the wall: six columns, one below the other, each with the numbers of one rule for 0 to 127.
 ghost use mathlib.Core.Path.{_≡_};
-ghost use Prim.Native.Nat.{_≤_};
+ghost use Prim.Native.Nat.{_≤_, _+_, _*_};
 ghost use Rattle.controls.specs.Sheet.{onSheet};
+ghost use Rattle.controls.specs.Showing.{smallest};
+ghost use Rattle.controls.specs.Private.{sheetRow, IsSheet, isBefore};
+use crate::Reading;
 
 // The number in a column for v.
 pub(crate) fn on_sheet(column: usize, v: u16) -> u16
@@ -10,6 +13,66 @@ pub(crate) fn on_sheet(column: usize, v: u16) -> u16
     ensures { λ r. ⌜ r ≡ onSheet column v ⌝ }
 {
     SHEET[128 * column + v as usize]
+}
+
+// The smallest value with the stored number in a column. The sheet is handed down by reference: it is written to the
+// stack wherever it is read, and so once.
+pub(crate) fn first_on_sheet(column: usize, stored: u32) -> Reading
+    requires { ⌜ column ≤ 5 ⌝ }
+    ensures { λ r. ⌜ r ≡ smallest (sheetRow column) stored 128 0 ⌝ }
+{
+    search(&SHEET, column, stored)
+}
+
+// Each pass leaves a part of the values in which the smallest is, if it is anywhere: 16 of 128, 4 of these, one.
+fn search(sheet: &[u16; 768], column: usize, stored: u32) -> Reading
+    requires { ⌜ IsSheet (now sheet) × (column ≤ 5) ⌝ }
+    ensures { λ r. ⌜ r ≡ smallest (sheetRow column) stored 128 0 ⌝ }
+{
+    let far = pass(sheet, column, stored, 0, 16, 7);
+    let near = pass(sheet, column, stored, far, 4, 3);
+    let v = pass(sheet, column, stored, near, 1, 3);
+    if sheet[128 * column + v] as u32 == stored {
+        return Reading::Value(v as u16);
+    }
+    Reading::Refused(40)
+}
+
+// Passes over strides of values, as long as the last of a stride comes before the stored number in the column's order,
+// so many at most. The stride behind them has the smallest, if one of all these strides has it.
+fn pass(
+    sheet: &[u16; 768],
+    column: usize,
+    stored: u32,
+    from: usize,
+    stride: usize,
+    most: usize,
+) -> usize
+    requires { ⌜ IsSheet (now sheet) × (column ≤ 5) × (1 ≤ stride) × (from + (most + 1) * stride ≤ 128) ⌝ }
+    ensures { λ r. ⌜ (r + stride ≤ 128) × (smallest (sheetRow column) stored stride r ≡ smallest (sheetRow column) stored ((most + 1) * stride) from) ⌝ }
+{
+    let mut at = from;
+    let mut left = most;
+    while 0 < left {
+        if is_before(column, sheet[128 * column + at + stride - 1], stored) {
+            at += stride;
+            left -= 1;
+        } else {
+            return at;
+        }
+    }
+    at
+}
+
+// Whether a number comes before the stored one in its column: 23's falls, the others rise.
+fn is_before(column: usize, number: u16, stored: u32) -> bool
+    ensures { λ r. ⌜ r ≡ isBefore column number stored ⌝ }
+{
+    let wide = number as u32;
+    if column == 0 {
+        return stored < wide;
+    }
+    wide < stored
 }
 
 const SHEET: [u16; 768] = [

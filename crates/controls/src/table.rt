@@ -3,7 +3,9 @@
 ghost use mathlib.Core.Path.{_≡_};
 ghost use Rattle.kinds.specs.declared.Kind.the-variants.{Pod, BassPod};
 ghost use Rattle.controls.specs.Table.{rowAs, rowOf, effectOf, selected};
+ghost use Rattle.controls.specs.Private.{packedOf, rowIn, divisorIn};
 use crate::Row;
+use crate::formulas;
 use crate::formulas::AS_RECEIVED;
 use crate::formulas::M_LOWER;
 use crate::formulas::M_UPPER;
@@ -31,23 +33,55 @@ const ROTARY: u8 = 4;
 
 const TREMOLO: u8 = 5;
 
-fn row(place: u8, width: u8, formula: u8, least: u8, highest: u8, effect: u8) -> Row
-    ensures { λ r. ⌜ r ≡ rowAs place width formula least highest effect ⌝ }
+// A row and what its formula divides by.
+pub(crate) struct Found {
+    pub row: Row,
+    pub divisor: u8,
+}
+
+pub fn row_of(controller: u32, kind: Kind) -> Row
+    ensures { λ r. ⌜ r ≡ rowOf kind controller ⌝ }
 {
-    Row {
-        place,
-        width,
-        formula,
-        least,
-        highest,
-        effect,
+    let found = unpacked(packed_row(controller, kind));
+    found.row
+}
+
+// A row and its divisor from the one number.
+pub(crate) fn unpacked(packed: u64) -> Found
+    ensures { λ r. ⌜ (r .row ≡ rowIn packed) × (r .divisor ≡ divisorIn packed) ⌝ }
+{
+    let second = packed / 256;
+    let third = second / 256;
+    let fourth = third / 256;
+    let fifth = fourth / 256;
+    let sixth = fifth / 256;
+    Found {
+        row: Row {
+            place: (packed % 256) as u8,
+            width: (second % 256) as u8,
+            formula: (third % 256) as u8,
+            least: (fourth % 256) as u8,
+            highest: (fifth % 256) as u8,
+            effect: (sixth % 256) as u8,
+        },
+        divisor: (sixth / 256 % 256) as u8,
     }
 }
 
-// The row of a controller of a kind. A POD Pro has two rows of its own, and goes on as a POD: the POD's rows have one
-// caller, so that the compiler keeps them in this function.
-pub fn row_of(controller: u32, kind: Kind) -> Row
-    ensures { λ r. ⌜ r ≡ rowOf kind controller ⌝ }
+// A row as one number, a byte for each of its columns and one for what its formula divides by: a struct would come back
+// through memory.
+fn row(place: u8, width: u8, formula: u8, least: u8, highest: u8, effect: u8) -> u64
+    ensures { λ r. ⌜ r ≡ packedOf (rowAs place width formula least highest effect) ⌝ }
+{
+    let sixth = effect as u64 + 256 * formulas::divisor_of(formula) as u64;
+    let fourth = least as u64 + 256 * (highest as u64 + 256 * sixth);
+    place as u64 + 256 * (width as u64 + 256 * (formula as u64 + 256 * fourth))
+}
+
+// The row of a controller of a kind, as one number. A POD Pro has two rows of its own, and goes on as a POD: the POD's
+// rows have one caller, so that the compiler keeps them in this function.
+pub(crate) fn packed_row(controller: u32, kind: Kind) -> u64
+    ensures { λ r. ⌜ r ≡ packedOf (rowOf kind controller) ⌝ }
 {
     match kind {
         Kind::Pod => {}
@@ -63,8 +97,8 @@ pub fn row_of(controller: u32, kind: Kind) -> Row
 
 // The 49 controllers of a POD: the first byte of the field, the bytes, the formula, the least number, the highest value,
 // the effect.
-fn pod_row(controller: u32) -> Row
-    ensures { λ r. ⌜ r ≡ rowOf Pod controller ⌝ }
+fn pod_row(controller: u32) -> u64
+    ensures { λ r. ⌜ r ≡ packedOf (rowOf Pod controller) ⌝ }
 {
     match controller {
         25 => row(0, 1, V_64, 0, 127, NONE),
@@ -121,8 +155,8 @@ fn pod_row(controller: u32) -> Row
 }
 
 // The ten of a Bass POD.
-fn bass_row(controller: u32) -> Row
-    ensures { λ r. ⌜ r ≡ rowOf BassPod controller ⌝ }
+fn bass_row(controller: u32) -> u64
+    ensures { λ r. ⌜ r ≡ packedOf (rowOf BassPod controller) ⌝ }
 {
     match controller {
         12 => row(3, 1, AS_RECEIVED, 0, 15, NONE),

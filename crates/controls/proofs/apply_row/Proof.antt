@@ -19,7 +19,10 @@ apply-row-spec =
     (λ c. search (tests, ← c .before .before .before .before .before .size .ensures))
     (λ c. let long = c .before .before .before .before .before .before .size .ensures in omega (arith, has-46 (c .before .before .before .before .before .before .before .before .args .kind)))
     (λ c κs. search needs)
-    (λ c κs. let long = c .before .before .before .before .before .before .before .before .before .size .ensures in ((_, c .before .before .before .before .before .before .before .before .before .before .before .pre), search needs))
+    (λ c κs.
+    let long = c .before .before .before .before .before .before .before .before .before .size .ensures in
+    let pre = c .before .before .before .before .before .before .before .before .before .before .before .pre in
+    (((_, pre .0), pre .1), search needs))
     (λ c. search needs)
     (λ c.
     let k = c .before .before .before .before in

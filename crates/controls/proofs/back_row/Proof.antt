@@ -19,7 +19,7 @@ back-row-spec =
     (λ c κs. search needs)
     (λ c. search needs)
     (λ c κs. let long = c .before .before .before .before .before .before .before .size .ensures in search needs)
-    (λ c κs. (_, c .before .before .before .before .before .before .before .before .before .before .pre))
+    (λ c κs. let pre = c .before .before .before .before .before .before .before .before .before .before .pre in ((_, pre .0), pre .1))
     (λ c.
     let k = c .before .before .before in
     rw (

@@ -1,5 +1,5 @@
 -- The row is that of the table.
-use Rattle.controls.proofs.Rows.{row-sane}
+use Rattle.controls.proofs.Packed.{found-row, found-sane}
 use Rattle.controls.specs.Scaling.{scaleOf}
 use borrow.Author.Needs.{needs}
 use Rattle.controls.proofs.scale.Statement.{statement}
@@ -11,5 +11,6 @@ scale-spec =
     tie.close
     (tie.spec
     (λ c κs. search needs)
-    (λ c κs. rw (c .row-of .ensures) (_, row-sane _ _))
-    (λ c. rw (← c .before .row-of .ensures) (c .scale-row .ensures)))
+    (λ c κs. search needs)
+    (λ c κs. let sane = found-sane _ _ _ _ _ (c .before .before .packed-row .ensures) (c .before .unpacked .ensures) in ((_, sane .0), sane .1))
+    (λ c. rw (← found-row _ _ _ _ _ (c .before .before .before .packed-row .ensures) (c .before .before .unpacked .ensures)) (c .scale-row .ensures)))

@@ -1,5 +1,5 @@
 -- The row is that of the table.
-use Rattle.controls.proofs.Rows.{row-sane}
+use Rattle.controls.proofs.Packed.{found-row, found-sane}
 use Rattle.controls.specs.Showing.{backOf}
 use borrow.Author.Needs.{needs}
 use Rattle.controls.proofs.show_back.Statement.{statement}
@@ -11,5 +11,6 @@ show-back-spec =
     tie.close
     (tie.spec
     (λ c κs. search needs)
-    (λ c κs. rw (c .row-of .ensures) (row-sane _ _))
-    (λ c. rw (← c .before .row-of .ensures) (c .back-row .ensures)))
+    (λ c κs. search needs)
+    (λ c κs. found-sane _ _ _ _ _ (c .before .before .packed-row .ensures) (c .before .unpacked .ensures))
+    (λ c. rw (← found-row _ _ _ _ _ (c .before .before .before .packed-row .ensures) (c .before .before .unpacked .ensures)) (c .back-row .ensures)))

@@ -1,4 +1,4 @@
--- The number that stands there, the next one, and where it goes.
+-- The next number, and where it goes.
 use Rattle.controls.specs.Applying.{storeRow}
 use borrow.Author.Needs.{needs}
 use Rattle.controls.proofs.fields.store.Statement.{statement}
@@ -9,10 +9,8 @@ unfolding storeRow
 store-spec =
     tie.close
     (tie.spec
-    (λ c. search needs)
     (λ c κs. search needs)
     (λ c. search needs)
     (λ c κs. search needs)
-    (λ c κs. search needs)
     (λ c. search needs)
-    (λ c. rw (← c .before .before .before .before .before .read .ensures, ← c .before .before .before .next .ensures) (c .before .before .put .ensures)))
+    (λ c. rw (← c .before .before .before .before .before .next .ensures) (c .before .before .put .ensures)))

@@ -1,10 +1,11 @@
 -- The arms are the rows of the list, in its order.
-use mathlib.Core.Path.{_∙_, sym}
+use mathlib.Core.Path.{_∙_, sym, ap}
 use Rattle.ground.proofs.Tests.{tests}
 use borrow.Author.Needs.{needs}
 use Rattle.kinds.specs.declared.Kind.the-variants.{BassPod}
 use Rattle.kinds.specs.Kinds.{highestModel}
 use Rattle.controls.specs.Table.{unlisted, rows, table, rowOf}
+use Rattle.controls.specs.Private.{packedOf}
 use Rattle.controls.proofs.Rows.{not-found}
 use Rattle.controls.proofs.table.bass_row.Statement.{statement}
 use Rattle.controls.proofs.table.bass_row.Tie as tie
@@ -35,4 +36,4 @@ bass-row-spec =
     (λ c. search (tests, c .row8 .ensures, c .before .match .keys8))
     (λ c. search (tests, c .row9 .ensures, c .before .match .keys9))
     (λ c. search (tests, c .row10 .ensures, c .before .match .keys10))
-    (λ c. c .row11 .ensures ∙ sym (not-found unlisted _ (rows BassPod) (Unit {0}) (c .before .match .rest) .1)))
+    (λ c. c .row11 .ensures ∙ ap packedOf (sym (not-found unlisted _ (rows BassPod) (Unit {0}) (c .before .match .rest) .1))))

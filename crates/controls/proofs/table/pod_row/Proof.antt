@@ -1,10 +1,11 @@
 -- The arms are the rows of the list, in its order.
-use mathlib.Core.Path.{_∙_, sym}
+use mathlib.Core.Path.{_∙_, sym, ap}
 use Rattle.ground.proofs.Tests.{tests}
 use borrow.Author.Needs.{needs}
 use Rattle.kinds.specs.declared.Kind.the-variants.{Pod}
 use Rattle.kinds.specs.Kinds.{highestModel}
 use Rattle.controls.specs.Table.{unlisted, rows, table, rowOf}
+use Rattle.controls.specs.Private.{packedOf}
 use Rattle.controls.proofs.Rows.{not-found}
 use Rattle.controls.proofs.table.pod_row.Statement.{statement}
 use Rattle.controls.proofs.table.pod_row.Tie as tie
@@ -113,4 +114,4 @@ pod-row-spec =
     (λ c. search (tests, c .row47 .ensures, c .before .match .keys47))
     (λ c. search (tests, c .row48 .ensures, c .before .match .keys48))
     (λ c. search (tests, c .row49 .ensures, c .before .match .keys49))
-    (λ c. c .row50 .ensures ∙ sym (not-found unlisted _ (rows Pod) (Unit {0}) (c .before .match .rest) .1)))
+    (λ c. c .row50 .ensures ∙ ap packedOf (sym (not-found unlisted _ (rows Pod) (Unit {0}) (c .before .match .rest) .1))))
