@@ -34,19 +34,19 @@ returns-2 c marks =
 returns-3 : tie.Need-returns-3
 unfolding channelDoes
 returns-3 c marks =
-    let h = c .before .before .before in
+    let h = c .before .before in
     rw (
       ← h .before .before .before .is-heard .ensures,
       h .before .before .if1 .taken,
       ← h .before .is-controller .ensures,
       h .if2 .left,
-      ← c .before .before .is-program-change .ensures,
-      c .before .if3 .left,
+      ← c .before .is-program-change .ensures,
+      c .if3 .left,
     )
 
 returns-4 : tie.Need-returns-4
 unfolding channelDoes
-returns-4 c marks = rw (← c .before .before .is-heard .ensures, c .before .if1 .left)
+returns-4 c marks = rw (← c .before .is-heard .ensures, c .if1 .left)
 
 pub channel-spec : {M : Type 1} → statement M
 channel-spec =
@@ -61,7 +61,5 @@ channel-spec =
     change-program-requires
     (λ c. search needs)
     returns-2
-    (λ c κs. search needs)
     returns-3
-    (λ c κs. search needs)
     returns-4)

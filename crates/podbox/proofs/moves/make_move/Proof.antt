@@ -21,9 +21,9 @@ controller-requires c κs =
 returns-2 : tie.Need-returns-2
 unfolding moveDoes
 returns-2 c marks =
-    let k = c .before .before .before .before in
+    let k = c .before .before .before .before .before in
     let holds = rw (k .before .memory-size .ensures) at (k .if1 .left) in
-    rw (le-leb _ _ holds) (c .before .before .controller .ensures marks)
+    rw (c .number-answer .ensures, le-leb _ _ holds) (c .before .before .before .controller .ensures marks)
 
 pub make-move-spec : {M : Type 1} → statement M
 make-move-spec =
@@ -33,5 +33,6 @@ make-move-spec =
     (λ c κs. search needs)
     returns
     controller-requires
+    (λ c κs. search needs)
     (λ c. search needs)
     returns-2)

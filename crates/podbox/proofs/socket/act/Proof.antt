@@ -56,9 +56,10 @@ returns-6 c =
 returns-7 : tie.Need-returns-7
 unfolding stepDoes messageDoes
 returns-7 c =
-    let a = c .before .before .before .before .before .before .before .before .before .before .before .before .args in
-    rw (c .before .before .before .before .before .event3 .given .1, sender (a .player) (c .before .before .before .before .before .before .before .before .before .before .before .before .pre .1 .0))
-    (ap (λ (o : Outcome). took (a .stepped .receiver) (o .answer) (o .held) (now (a .receive)) (written (o .sent) (now (a .reply)))) (c .before .before .channel .ensures (now (a .marks))))
+    let k = c .before .before .before .before .before .before in
+    let a = k .before .before .before .before .before .before .before .args in
+    rw (c .number-answer .ensures, k .event3 .given .1, sender (a .player) (k .before .before .before .before .before .before .before .pre .1 .0))
+    (ap (λ (o : Outcome). took (a .stepped .receiver) (o .answer) (o .held) (now (a .receive)) (written (o .sent) (now (a .reply)))) (c .before .before .before .channel .ensures (now (a .marks))))
 
 pub act-spec : {M : Type 1} → statement M
 act-spec =
@@ -79,6 +80,7 @@ act-spec =
     slice-aggregate-carry-out
     (λ c κs. search needs)
     (λ c. search needs)
+    (λ c κs. search needs)
     (λ c κs. search needs)
     returns
     (λ c. search needs)

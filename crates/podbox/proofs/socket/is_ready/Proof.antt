@@ -11,10 +11,10 @@ returns c =
     (c .sound .ensures ∙ sym (and-true _))
 
 returns-2 : tie.Need-returns-2
-returns-2 c = rw (← c .before .before .before .are-valid .ensures, c .before .before .if1 .taken, ← c .before .are-marks .ensures, c .if2 .left) (sym (and-false _))
+returns-2 c = rw (← c .before .before .before .are-valid .ensures, c .before .before .if1 .taken, ← c .before .are-marks .ensures, c .if2 .left, and-false)
 
 returns-3 : tie.Need-returns-3
-returns-3 c = rw (← c .before .are-valid .ensures, c .if1 .left) (sym (and-false _))
+returns-3 c = rw (← c .before .are-valid .ensures, c .if1 .left, and-false)
 
 pub is-ready-spec : {M : Type 1} → statement M
 is-ready-spec =
