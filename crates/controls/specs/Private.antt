@@ -10,6 +10,8 @@ use Rattle.kinds.specs.declared.Kind.{Kind}
 use Rattle.kinds.specs.declared.Kind.the-variants.{Pod}
 use Rattle.kinds.specs.Kinds.{sizeOf}
 use Rattle.controls.specs.declared.Row.{Row}
+use Rattle.controls.specs.declared.Change.{Change}
+use Rattle.controls.specs.declared.Change.the-variants.{Applied, Refused}
 use Rattle.controls.specs.Formulas.{v/64, v/2, as-received, v/22, v×50, v×256/104, v×256/42, v×22+100, v×25}
 use Rattle.controls.specs.Table.{rowAs, rowOf}
 use Rattle.controls.specs.Sheet.{columns, sheetRule}
@@ -69,3 +71,7 @@ IsSheet sheet = sheet ≡ column sheetRule 768
 -- whether a number comes before the stored one in its column's order: 23's falls, the others rise
 unfoldable pub isBefore : ℕ → ℕ → ℕ → Bool
 isBefore c number stored = cond (eqb c 0) (ltb stored number) (ltb number stored)
+
+-- what became of a move, of its number: 3 "controller applied", or the refusal
+abbrev pub changeOf : ℕ → Change
+changeOf number = cond (eqb number 3) Applied (Refused number)

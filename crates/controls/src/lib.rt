@@ -7,7 +7,7 @@ mod table;
 use kinds::Kind;
 pub use table::row_of;
 ghost use mathlib.Core.Path.{_≡_};
-ghost use Rattle.controls.specs.Private.{Sane, SaneForSome, divisorOf};
+ghost use Rattle.controls.specs.Private.{Sane, SaneForSome, divisorOf, changeOf};
 ghost use Rattle.controls.specs.Scaling.{scaleRow, scaleOf};
 ghost use Rattle.controls.specs.Applying.{changed, applyRow, applyOf};
 ghost use Rattle.controls.specs.Showing.{backRow, backOf};
@@ -69,28 +69,33 @@ pub fn apply(controller: u32, value: u32, kind: Kind, edit: &mut [u8]) -> Change
 {
     let found = table::unpacked(table::packed_row(controller, kind));
     let row = found.row;
-    apply_row(row, found.divisor, value, kind, edit)
+    let number = apply_row(row, found.divisor, value, kind, edit);
+    if number == 3 {
+        return Change::Applied;
+    }
+    Change::Refused(number)
 }
 
-fn apply_row(row: Row, divisor: u8, value: u32, kind: Kind, edit: &mut [u8]) -> Change
+// The row's number for a value into its bytes. A move is answered by its number: an enum would be taken apart again.
+fn apply_row(row: Row, divisor: u8, value: u32, kind: Kind, edit: &mut [u8]) -> u8
     requires { ⌜ Sane kind row × (divisor ≡ divisorOf (row .formula)) ⌝ }
-    ensures { λ r. ⌜ changed r (now (edit .exit)) ≡ applyRow kind row value (now (edit .entry)) ⌝ }
+    ensures { λ r. ⌜ changed (changeOf r) (now (edit .exit)) ≡ applyRow kind row value (now (edit .entry)) ⌝ }
 {
     if edit.len() < kinds::size(kind) as usize {
-        return Change::Refused(30);
+        return 30;
     }
     if row.width == 0 {
-        return Change::Refused(17);
+        return 17;
     }
     let highest = row.highest as u32;
     if highest < value {
-        return Change::Refused(18);
+        return 18;
     }
     if table::is_selected(row.effect, edit[46]) {
         fields::store(row, divisor, value, edit);
-        return Change::Applied;
+        return 3;
     }
-    Change::Refused(19)
+    19
 }
 
 // The smallest value of the controller that gives what stands in its bytes of the edit buffer.

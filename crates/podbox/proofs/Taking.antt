@@ -67,3 +67,7 @@ move-told kind controller value edit =
     (λ _. refl)
     (λ number low high. rw (ne-eqb number 1 (λ e. omega arith), ne-eqb number 3 (λ e. omega arith)))
     (λ _ _. refl)
+
+pub move-least : (kind : Kind) (controller value : ℕ) (edit : List ℕ) → 3 ≤ changeNumber (applyOf kind controller value edit .answer)
+move-least kind controller value edit =
+    apply-cases kind controller value edit (λ x. 3 ≤ changeNumber (x .answer)) (λ _. omega arith) (λ number low high. omega arith) (λ _ _. omega arith)

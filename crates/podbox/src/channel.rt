@@ -79,6 +79,7 @@ fn is_program_change(status: u8, number: u8, kind: Kind) -> bool
 pub(crate) fn controller(number: u8, value: u8, player: u32, kind: Kind, memory: &mut [u8]) -> u8
     requires { ⌜ HoldsMemory kind (now memory) ⌝ }
     ensures { λ r. ⌜ ((marks : List ℕ) → outcome (numberAnswer r) (heldOf (now (memory .exit)) marks) [] ≡ controllerDoes kind player number value (heldOf (now (memory .entry)) marks)) ⌝ }
+    ensures { λ r. ⌜ 3 ≤ r ⌝ }
 {
     let place = programs::edit_place(kind, player);
     let end = place + kinds::size(kind) as usize;

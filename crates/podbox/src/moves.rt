@@ -59,5 +59,8 @@ pub fn make_move(one: Move, player: u32, kind: Kind, memory: &mut [u8]) -> Answe
         return sysex::refused(30);
     }
     let number = channel::controller(one.controller, one.value, player, kind, memory);
-    channel::number_answer(number)
+    if number == 3 {
+        return Answer::Applied;
+    }
+    sysex::refused(number)
 }

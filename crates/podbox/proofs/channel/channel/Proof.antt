@@ -10,7 +10,7 @@ returns : tie.Need-returns
 unfolding channelDoes
 returns c marks =
     let k = c .before .before .before .before in
-    rw (← k .before .before .before .is-heard .ensures, k .before .before .if1 .taken, ← k .before .is-controller .ensures, k .if2 .taken) (c .before .before .controller .ensures marks)
+    rw (← k .before .before .before .is-heard .ensures, k .before .before .if1 .taken, ← k .before .is-controller .ensures, k .if2 .taken) (c .before .before .controller .ensures .0 marks)
 
 change-program-requires : tie.Need-change-program-requires
 change-program-requires c κs =

@@ -15,7 +15,7 @@ use Rattle.controls.specs.Applying.{Changed, applyOf}
 use Rattle.sysex.specs.declared.Answer.{Answer}
 use Rattle.carrying.specs.Carrying.{Outcome}
 use Rattle.podbox.specs.Private.{numberAnswer}
-use Rattle.podbox.proofs.Taking.{move-told}
+use Rattle.podbox.proofs.Taking.{move-told, move-least}
 use borrow.Author.Needs.{needs}
 use Rattle.podbox.proofs.channel.controller.Statement.{statement}
 use Rattle.podbox.proofs.channel.controller.Tie as tie
@@ -28,22 +28,27 @@ part-apply-end : tie.Need-part-apply-end
 part-apply-end c = omega (arith, c .size .ensures, c .before .edit-place .ensures, c .before .before .before .pre)
 
 returns : tie.Need-returns
-returns c marks =
+returns c =
     let a = c .before .before .before .before .before .before .before .before .args in
     let e = c .before .before .before .before .before .before .edit-place in
     let s = c .before .before .before .before .before .size in
     let place = e .ensures in
     let count = s .ensures in
-    let held = heldOf (now (a .memory)) marks in
-    rw (c .change-number .ensures)
-    (ap (put (now (a .memory)) marks (e .result) (s .result)) (c .before .before .before .apply .ensures)
-    ∙ (λ i. put (now (a .memory)) marks (place i) (count i)
-    (applyOf (a .kind) (a .number) (a .value) (take (place i + count i - place i) (drop (place i) (now (a .memory))))))
-    ∙ ap (λ (n : ℕ). outcome (numberAnswer (changeNumber (applyOf (a .kind) (a .number) (a .value) (take n (drop (editPlace (a .kind) (a .player)) (now (a .memory)))) .answer)))
-    (heldOf (putPart (editPlace (a .kind) (a .player)) n (applyOf (a .kind) (a .number) (a .value) (take n (drop (editPlace (a .kind) (a .player)) (now (a .memory)))) .edit) (now (a .memory))) marks) [])
-    (add-sub-cancel-left (editPlace (a .kind) (a .player)) (sizeOf (a .kind)))
-    ∙ ap (λ (answer : Answer). outcome answer (putIn (a .kind) (a .player) Edit (applyOf (a .kind) (a .number) (a .value) (bytesIn (a .kind) (a .player) Edit held) .edit) held) [])
-    (move-told (a .kind) (a .number) (a .value) (bytesIn (a .kind) (a .player) Edit held)))
+    let told = c .change-number .ensures in
+    let applied = c .before .before .before .apply .ensures in (
+      (λ (marks : List ℕ).
+          let held = heldOf (now (a .memory)) marks in
+          rw told
+          (ap (put (now (a .memory)) marks (e .result) (s .result)) applied
+          ∙ (λ i. put (now (a .memory)) marks (place i) (count i)
+          (applyOf (a .kind) (a .number) (a .value) (take (place i + count i - place i) (drop (place i) (now (a .memory))))))
+          ∙ ap (λ (n : ℕ). outcome (numberAnswer (changeNumber (applyOf (a .kind) (a .number) (a .value) (take n (drop (editPlace (a .kind) (a .player)) (now (a .memory)))) .answer)))
+          (heldOf (putPart (editPlace (a .kind) (a .player)) n (applyOf (a .kind) (a .number) (a .value) (take n (drop (editPlace (a .kind) (a .player)) (now (a .memory)))) .edit) (now (a .memory))) marks) [])
+          (add-sub-cancel-left (editPlace (a .kind) (a .player)) (sizeOf (a .kind)))
+          ∙ ap (λ (answer : Answer). outcome answer (putIn (a .kind) (a .player) Edit (applyOf (a .kind) (a .number) (a .value) (bytesIn (a .kind) (a .player) Edit held) .edit) held) [])
+          (move-told (a .kind) (a .number) (a .value) (bytesIn (a .kind) (a .player) Edit held)))),
+      rw (told ∙ ap (λ (x : Changed). changeNumber (x .answer)) applied) (move-least _ _ _ _),
+    )
 
 pub controller-spec : {M : Type 1} → statement M
 controller-spec =
