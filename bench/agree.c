@@ -98,7 +98,7 @@ static void change_mark(box *a, box *b, const given *g)
 static int take_same(box *a, box *b, uint8_t byte, const given *g)
 {
     change_mark(a, b, g);
-    uint64_t x = costerbloom_take(&a->receiver, g->socket, byte, g->kind, g->channel, g->omni, 1, 2, 3, g->revision3,
+    uint64_t x = tried.take(&a->receiver, g->socket, byte, g->kind, g->channel, g->omni, 1, 2, 3, g->revision3,
         a->memory, g->memory, a->marks, g->marks, a->receive, g->receive, a->reply, g->reply);
     uint64_t y = plain_take(&b->receiver, g->socket, byte, g->kind, g->channel, g->omni, 1, 2, 3, g->revision3,
         b->memory, g->memory, b->marks, g->marks, b->receive, g->receive, b->reply, g->reply);
@@ -109,8 +109,8 @@ static int take_same(box *a, box *b, uint8_t byte, const given *g)
 static int whole_same(box *a, box *b, const uint8_t *message, size_t length, const given *g)
 {
     change_mark(a, b, g);
-    uint64_t x = costerbloom_whole(message, length, g->kind, g->channel, g->omni, 1, 2, 3, g->revision3, a->memory,
-        g->memory, a->marks, g->marks, a->reply, g->reply);
+    uint64_t x = tried.whole(message, length, g->kind, g->channel, g->omni, 1, 2, 3, g->revision3, a->memory, g->memory,
+        a->marks, g->marks, a->reply, g->reply);
     uint64_t y = plain_whole(message, length, g->kind, g->channel, g->omni, 1, 2, 3, g->revision3, b->memory, g->memory,
         b->marks, g->marks, b->reply, g->reply);
     change_mark(a, b, g);
@@ -120,7 +120,7 @@ static int whole_same(box *a, box *b, const uint8_t *message, size_t length, con
 /* The numbers go to the reply buffer, of which so much is lent. */
 static int moves_same(box *a, box *b, const costerbloom_move *moves, size_t count, size_t lent, const given *g)
 {
-    return costerbloom_moves(moves, count, g->kind, g->channel, g->omni, 1, 2, 3, g->revision3, a->memory, g->memory,
+    return tried.moves(moves, count, g->kind, g->channel, g->omni, 1, 2, 3, g->revision3, a->memory, g->memory,
                a->reply, lent) == plain_moves(moves, count, g->kind, g->channel, g->omni, 1, 2, 3, g->revision3,
                                       b->memory, g->memory, b->reply, lent) &&
            same_box(a, b);
@@ -130,7 +130,7 @@ static int scales_same(uint32_t kind)
 {
     for (uint32_t controller = 0; controller < 140; controller++)
         for (uint32_t value = 0; value < 140; value++)
-            if (costerbloom_scale(controller, value, kind) != plain_scale(controller, value, kind))
+            if (tried.scale(controller, value, kind) != plain_scale(controller, value, kind))
                 return 0;
     return 1;
 }
@@ -138,7 +138,7 @@ static int scales_same(uint32_t kind)
 static int shows_same(const uint8_t *memory, uint32_t kind, uint32_t first, uint32_t last)
 {
     for (uint32_t controller = first; controller <= last; controller++)
-        if (costerbloom_back(controller, kind, memory, KIND[kind].memory) !=
+        if (tried.back(controller, kind, memory, KIND[kind].memory) !=
             plain_back(controller, kind, memory, KIND[kind].memory))
             return 0;
     return 1;
@@ -184,7 +184,7 @@ static int amps_same(uint32_t kind)
     static const uint32_t ABOVE[] = {0, 256, 65536, 0x80000000, 0xFFFFFF00};
     for (size_t i = 0; i < sizeof ABOVE / sizeof *ABOVE; i++)
         for (uint32_t byte = 0; byte < 256; byte++)
-            if (costerbloom_amp(ABOVE[i] + byte, kind) != plain_amp(ABOVE[i] + byte, kind))
+            if (tried.amp(ABOVE[i] + byte, kind) != plain_amp(ABOVE[i] + byte, kind))
                 return 0;
     return 1;
 }
@@ -203,8 +203,8 @@ int panel_agrees(void)
 static int panel_same(const box *a, const box *b, const given *g, uint64_t *seed)
 {
     uint32_t controller = below(seed, 140), value = below(seed, 140);
-    return costerbloom_scale(controller, value, g->kind) == plain_scale(controller, value, g->kind) &&
-           costerbloom_back(controller, g->kind, a->memory, g->memory) ==
+    return tried.scale(controller, value, g->kind) == plain_scale(controller, value, g->kind) &&
+           tried.back(controller, g->kind, a->memory, g->memory) ==
                plain_back(controller, g->kind, b->memory, g->memory);
 }
 

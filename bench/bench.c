@@ -1,12 +1,11 @@
 /* The same work by the library and by plain C, alternating in one run. docs/MEASUREMENTS.md says the method. */
 #include "side.h"
-#include <system.h>
 
 /* What is used of the C library beside it; the kit has no headers. */
 int printf(const char *form, ...);
 void qsort(void *base, size_t count, size_t size, int (*order)(const void *, const void *));
 
-enum { ROUNDS = 1000, WARM_UP = 100, MOVES = 8192, LISTS = 256, AGREED = 3000000 };
+enum { ROUNDS = 1000, WARM_UP = 100, MOVES = 8192, LISTED = 256 * COSTERBLOOM_MOST_MOVES, AGREED = 3000000 };
 
 typedef struct {
     const char *name, *unit;
@@ -17,10 +16,15 @@ typedef struct {
 
 static _Alignas(4096) box boxes[2];
 static uint8_t dump[COSTERBLOOM_POD_LONGEST], short_dump[COSTERBLOOM_LONGEST_OF(COSTERBLOOM_POD_PROGRAM - 1)],
-    bass_dump[COSTERBLOOM_BASS_POD_LONGEST];
+    bass_dump[COSTERBLOOM_BASS_POD_LONGEST], program_dump[2 * COSTERBLOOM_POD_PROGRAM + 10];
 static uint8_t moves[1 + 2 * MOVES], turns[1 + 2 * MOVES];
-static costerbloom_move listed[LISTS * COSTERBLOOM_MOST_MOVES];
-static const uint8_t REQUEST[] = {0xF0, 0, 1, 0x0C, 1, 0, 2, 0xF7}, BASS_REQUEST[] = {0xF0, 0, 1, 0x0C, 2, 0, 2, 0xF7};
+static costerbloom_move listed[LISTED];
+static const uint8_t REQUEST[] = {0xF0, 0, 1, 0x0C, 1, 0, 2, 0xF7}, BASS_REQUEST[] = {0xF0, 0, 1, 0x0C, 2, 0, 2, 0xF7},
+                     PROGRAM_REQUEST[] = {0xF0, 0, 1, 0x0C, 1, 0, 0, 17, 0xF7};
+
+/* The library as agree.c calls it: itself. */
+const side tried = {
+    costerbloom_take, costerbloom_whole, costerbloom_moves, costerbloom_scale, costerbloom_back, costerbloom_amp};
 
 /* ---- the work, written once for both sides: each side's function is inlined into it, and calls it directly */
 
@@ -58,7 +62,7 @@ ONCE bass_dump_in(take_call *take, box *b)
 }
 
 /* So many that a turn is long beside a look at the clock. */
-enum { REQUESTS = 32, BYTES = 8192, CALLS = 32, SHOWN = 1024 };
+enum { REQUESTS = 32, BYTES = 8192, CALLS = 32, QUICK_CALLS = 1024 };
 
 ONCE asked(take_call *take, uint32_t kind, box *b, const uint8_t *request)
 {
@@ -93,18 +97,34 @@ ONCE one_knob(take_call *take, box *b)
     return fed(take, COSTERBLOOM_POD, b, turns, sizeof turns);
 }
 
-/* The mixed moves and more of them, in lists as long as they may be. So many, since a processor that runs through 8,192
- * in one loop soon knows them by heart, and the plain side is then more than twice as fast. The numbers go to the reply
+/* The mixed moves and more of them, in lists of one length. So many, since a processor that runs through 8,192 in one
+ * loop soon knows them by heart, and the plain side is then more than twice as fast. The numbers go to the reply
  * buffer; one of each list is kept too, since the answers are all 0. */
-ONCE listed_moves(moves_call *call, box *b)
+ONCE in_lists(moves_call *call, box *b, size_t length)
 {
     uint64_t answers = 0;
-    for (size_t i = 0; i < LISTS; i++) {
-        uint64_t answer = call(listed + i * COSTERBLOOM_MOST_MOVES, COSTERBLOOM_MOST_MOVES, COSTERBLOOM_POD, 0, 0, 0x30,
-            0x31, 0x30, 0x30, b->memory, sizeof b->memory, b->reply, sizeof b->reply);
-        answers = 3 * answers + answer + b->reply[i];
+    for (size_t i = 0; i < LISTED / length; i++) {
+        uint64_t answer = call(listed + i * length, length, COSTERBLOOM_POD, 0, 0, 0x30, 0x31, 0x30, 0x30, b->memory,
+            sizeof b->memory, b->reply, sizeof b->reply);
+        answers = 3 * answers + answer + b->reply[i % length];
     }
     return answers;
+}
+
+ONCE single_moves(moves_call *call, box *b)
+{
+    return in_lists(call, b, 1);
+}
+
+ONCE short_lists(moves_call *call, box *b)
+{
+    return in_lists(call, b, 16);
+}
+
+/* As long as they may be. */
+ONCE listed_moves(moves_call *call, box *b)
+{
+    return in_lists(call, b, COSTERBLOOM_MOST_MOVES);
 }
 
 ONCE real_time(take_call *take, box *b)
@@ -116,14 +136,29 @@ ONCE real_time(take_call *take, box *b)
 }
 
 /* The receiver is set back to the whole dump but for F7, which still stands in the receive buffer. */
-ONCE last_byte(take_call *take, box *b)
+ONCE finished(take_call *take, uint32_t kind, box *b, size_t length, int count)
 {
     uint64_t answers = 0;
-    for (int i = 0; i < CALLS; i++) {
-        b->receiver = (costerbloom_receiver){.stored = sizeof dump - 1, .inside = 1};
-        answers = 3 * answers + taken(take, COSTERBLOOM_POD, b, 0xF7);
+    for (int i = 0; i < count; i++) {
+        b->receiver = (costerbloom_receiver){.stored = (uint16_t)(length - 1), .inside = 1};
+        answers = 3 * answers + taken(take, kind, b, 0xF7);
     }
     return answers;
+}
+
+ONCE last_byte(take_call *take, box *b)
+{
+    return finished(take, COSTERBLOOM_POD, b, sizeof dump, CALLS);
+}
+
+ONCE last_byte_of_program(take_call *take, box *b)
+{
+    return finished(take, COSTERBLOOM_POD, b, sizeof program_dump, QUICK_CALLS);
+}
+
+ONCE bass_last_byte(take_call *take, box *b)
+{
+    return finished(take, COSTERBLOOM_BASS_POD, b, sizeof bass_dump, CALLS);
 }
 
 ONCE from_panel(whole_call *whole, box *b)
@@ -138,7 +173,7 @@ ONCE from_panel(whole_call *whole, box *b)
 ONCE shown(back_call *back, box *b, uint32_t controller)
 {
     uint64_t answers = 0;
-    for (int i = 0; i < SHOWN; i++)
+    for (int i = 0; i < QUICK_CALLS; i++)
         answers = 3 * answers + back(controller, COSTERBLOOM_POD, b->memory, sizeof b->memory);
     return answers;
 }
@@ -168,25 +203,29 @@ SIDES(short_dump_in, take)
 SIDES(reply_out, take)
 SIDES(mixed_moves, take)
 SIDES(one_knob, take)
+SIDES(single_moves, moves)
+SIDES(short_lists, moves)
 SIDES(listed_moves, moves)
 SIDES(real_time, take)
+SIDES(last_byte_of_program, take)
 SIDES(last_byte, take)
 SIDES(from_panel, whole)
 SIDES(shown_back, back)
 SIDES(shown_of_sheet, back)
 SIDES(bass_dump_in, take)
+SIDES(bass_last_byte, take)
 SIDES(bass_reply_out, take)
 SIDES(pro_mixed_moves, take)
 
 /* ---- what is fed */
 
-/* The dump that answers a request for all programs, so long. */
-static void make_dump(uint8_t *message, size_t length, const uint8_t *request)
+/* The dump that answers a request, so long: the version stands where the request ends, and its half bytes behind. */
+static void make_dump(uint8_t *message, size_t length, const uint8_t *request, size_t request_length)
 {
     uint64_t seed = 36;
-    __builtin_memcpy(message, request, 7);
+    __builtin_memcpy(message, request, request_length - 1);
     message[5] = 1;
-    for (size_t i = 8; i < length - 1; i++)
+    for (size_t i = request_length; i < length - 1; i++)
         message[i] = (uint8_t)below(&seed, 16);
     message[length - 1] = 0xF7;
 }
@@ -200,7 +239,7 @@ static void make_moves(void)
         34, 38, 39, 40, 41, 18, 72, 1, 4, 44, 45, 7, 46, 12, 71, 19, 23, 30, 62, 49, 42, 51, 52, 53, 54, 55, 56, 57, 58,
         59};
     uint64_t seed = 49;
-    for (size_t i = 0; i < sizeof listed / sizeof *listed; i++) {
+    for (size_t i = 0; i < LISTED; i++) {
         listed[i].controller = below(&seed, 16) ? CONTROLLERS[below(&seed, 49)] : (uint8_t)below(&seed, 128);
         listed[i].value = (uint8_t)below(&seed, listed[i].controller == 19 ? 17 : 128);
     }
@@ -222,18 +261,46 @@ static void fresh(box *b)
     __builtin_memset(b->marks, 1, sizeof b->marks);
 }
 
-static void with_dump(box *b)
+static void received(box *b, const uint8_t *message, size_t length)
 {
     fresh(b);
-    __builtin_memcpy(b->receive, dump, sizeof dump - 1);
+    __builtin_memcpy(b->receive, message, length - 1);
 }
 
-/* Bytes 9 and 16 hold what no value of controllers 13 and 23 gives: every value is in vain. */
-static void with_none(box *b)
+static void with_dump(box *b)
+{
+    received(b, dump, sizeof dump);
+}
+
+static void with_program_dump(box *b)
+{
+    received(b, program_dump, sizeof program_dump);
+}
+
+static void with_bass_dump(box *b)
+{
+    received(b, bass_dump, sizeof bass_dump);
+}
+
+/* Bytes 9 and 16 of the edit buffer are those of controllers 13 and 23. */
+static void showing(box *b, uint32_t of_13, uint32_t of_23)
 {
     uint8_t *edit = b->memory + COSTERBLOOM_POD_MEMORY - COSTERBLOOM_POD_PROGRAM;
     fresh(b);
-    edit[9] = edit[16] = 0xFF;
+    edit[9] = (uint8_t)of_13;
+    edit[16] = (uint8_t)of_23;
+}
+
+/* What no value gives: every value is in vain. */
+static void with_none(box *b)
+{
+    showing(b, 0xFF, 0xFF);
+}
+
+/* What a high value gives, and none below it. */
+static void with_high(box *b)
+{
+    showing(b, costerbloom_scale(13, 100, COSTERBLOOM_POD), costerbloom_scale(23, 100, COSTERBLOOM_POD));
 }
 
 static void inside(box *b)
@@ -248,14 +315,22 @@ static const work WORKS[] = {
     {"a long reply out, its request", "request", REQUESTS, fresh, reply_out_library, reply_out_plain},
     {"controllers, all kinds mixed", "byte", sizeof moves, fresh, mixed_moves_library, mixed_moves_plain},
     {"controllers, one knob turned", "byte", sizeof turns, fresh, one_knob_library, one_knob_plain},
-    {"256 moves in one call", "move", sizeof listed / sizeof *listed, fresh, listed_moves_library, listed_moves_plain},
+    {"1 move in one call", "move", LISTED, fresh, single_moves_library, single_moves_plain},
+    {"16 moves in one call", "move", LISTED, fresh, short_lists_library, short_lists_plain},
+    {"256 moves in one call", "move", LISTED, fresh, listed_moves_library, listed_moves_plain},
     {"real-time bytes", "byte", BYTES, fresh, real_time_library, real_time_plain},
     {"real-time bytes inside a SysEx", "byte", BYTES, inside, real_time_library, real_time_plain},
+    {"one call: F7 of 154 bytes", "call", QUICK_CALLS, with_program_dump, last_byte_of_program_library,
+        last_byte_of_program_plain},
     {"one call: F7 of a long dump", "call", CALLS, with_dump, last_byte_library, last_byte_plain},
     {"one call: a long dump, panel", "call", CALLS, fresh, from_panel_library, from_panel_plain},
-    {"one call: shown back, none found", "call", SHOWN, with_none, shown_back_library, shown_back_plain},
-    {"one call: the same, of the sheet", "call", SHOWN, with_none, shown_of_sheet_library, shown_of_sheet_plain},
+    {"one call: shown back, none found", "call", QUICK_CALLS, with_none, shown_back_library, shown_back_plain},
+    {"one call: the same, of the sheet", "call", QUICK_CALLS, with_none, shown_of_sheet_library, shown_of_sheet_plain},
+    {"one call: shown back, found", "call", QUICK_CALLS, with_high, shown_back_library, shown_back_plain},
+    {"one call: the same, of the sheet, found", "call", QUICK_CALLS, with_high, shown_of_sheet_library,
+        shown_of_sheet_plain},
     {"Bass POD: a long dump in", "byte", sizeof bass_dump, fresh, bass_dump_in_library, bass_dump_in_plain},
+    {"Bass POD: F7 of 5,769 bytes", "call", CALLS, with_bass_dump, bass_last_byte_library, bass_last_byte_plain},
     {"Bass POD: a long reply out", "request", REQUESTS, fresh, bass_reply_out_library, bass_reply_out_plain},
     {"POD Pro: controllers, mixed", "byte", sizeof moves, fresh, pro_mixed_moves_library, pro_mixed_moves_plain},
 };
@@ -264,11 +339,9 @@ static const work WORKS[] = {
 
 static double time_of(uint64_t (*turn)(box *), box *b, uint64_t *answers)
 {
-    struct timespec from, to;
-    clock_gettime(CLOCK_MONOTONIC, &from);
+    uint64_t from = now();
     *answers = turn(b);
-    clock_gettime(CLOCK_MONOTONIC, &to);
-    return (double)(to.seconds - from.seconds) * 1e9 + (double)(to.nanoseconds - from.nanoseconds);
+    return (double)(now() - from);
 }
 
 static int by_size(const void *a, const void *b)
@@ -330,9 +403,10 @@ static void count_moves(void)
 int main(int words, char **unused)
 {
     (void)unused;
-    make_dump(dump, sizeof dump, REQUEST);
-    make_dump(short_dump, sizeof short_dump, REQUEST);
-    make_dump(bass_dump, sizeof bass_dump, BASS_REQUEST);
+    make_dump(dump, sizeof dump, REQUEST, sizeof REQUEST);
+    make_dump(short_dump, sizeof short_dump, REQUEST, sizeof REQUEST);
+    make_dump(bass_dump, sizeof bass_dump, BASS_REQUEST, sizeof BASS_REQUEST);
+    make_dump(program_dump, sizeof program_dump, PROGRAM_REQUEST, sizeof PROGRAM_REQUEST);
     make_moves();
     if (!panel_agrees()) {
         printf("a value is scaled or shown back, or an amp model known, otherwise by the plain side\n");

@@ -3,6 +3,7 @@
 #define SIDE_H
 
 #include "plain.h"
+#include <system.h>
 
 typedef uint64_t take_call(costerbloom_receiver *, uint32_t, uint8_t, uint32_t, uint8_t, uint8_t, uint8_t, uint8_t,
     uint8_t, uint8_t, uint8_t *, size_t, uint8_t *, size_t, uint8_t *, size_t, uint8_t *, size_t);
@@ -10,7 +11,20 @@ typedef uint64_t whole_call(const uint8_t *, size_t, uint32_t, uint8_t, uint8_t,
     uint8_t *, size_t, uint8_t *, size_t, uint8_t *, size_t);
 typedef uint64_t moves_call(const costerbloom_move *, size_t, uint32_t, uint8_t, uint8_t, uint8_t, uint8_t, uint8_t,
     uint8_t, uint8_t *, size_t, uint8_t *, size_t);
+typedef uint32_t scale_call(uint32_t, uint32_t, uint32_t);
 typedef uint32_t back_call(uint32_t, uint32_t, const uint8_t *, size_t);
+typedef uint32_t amp_call(uint32_t, uint32_t);
+
+/* The library as agree.c calls it: by the functions that the program has put here. */
+typedef struct {
+    take_call *take;
+    whole_call *whole;
+    moves_call *moves;
+    scale_call *scale;
+    back_call *back;
+    amp_call *amp;
+} side;
+extern const side tried;
 
 /* Of any kind, and some room behind the marks. Each buffer begins on a cache line of its own on both sides, so that
  * neither is luckier. */
@@ -29,6 +43,14 @@ static inline uint32_t below(uint64_t *seed, uint32_t limit)
     *seed ^= *seed >> 7;
     *seed ^= *seed << 17;
     return (uint32_t)(*seed >> 32) % limit;
+}
+
+/* The clock, in nanoseconds. */
+static inline uint64_t now(void)
+{
+    struct timespec t;
+    clock_gettime(CLOCK_MONOTONIC, &t);
+    return (uint64_t)t.seconds * 1000000000 + (uint64_t)t.nanoseconds;
 }
 
 static inline int same(const void *a, const void *b, size_t length)
