@@ -120,7 +120,8 @@ fn multiple(row: Row, divisor: u8, stored: u32) -> Reading
     Reading::Refused(40)
 }
 
-// By the formulas of m, or from the sheet.
+// By the formulas of m, or from the sheet. The search of the sheet has two callers: called once, it would be built into
+// this call, and the sheet into the stack of every showing back.
 fn shown_undivided(row: Row, stored: u32) -> Reading
     requires { ⌜ SaneForSome row × (divisorOf (row .formula) ≡ 0) ⌝ }
     ensures { λ r. ⌜ r ≡ shownOf row stored ⌝ }
@@ -131,6 +132,9 @@ fn shown_undivided(row: Row, stored: u32) -> Reading
     }
     if row.formula == M_LOWER {
         return seven_bits(stored, m, m % 128);
+    }
+    if row.formula == THRESHOLD {
+        return first_on_sheet(0, stored);
     }
     first_on_sheet(column_of(row.formula), stored)
 }
