@@ -33,12 +33,13 @@ const ROTARY: u8 = 4;
 
 const TREMOLO: u8 = 5;
 
-// A row and what its formula divides by.
+// A row, and what its formula divides by: 0 where it does not divide.
 pub(crate) struct Found {
     pub row: Row,
     pub divisor: u8,
 }
 
+// The row of a controller of a kind.
 pub fn row_of(controller: u32, kind: Kind) -> Row
     ensures { λ r. ⌜ r ≡ rowOf kind controller ⌝ }
 {
@@ -78,8 +79,8 @@ fn row(place: u8, width: u8, formula: u8, least: u8, highest: u8, effect: u8) ->
     place as u64 + 256 * (width as u64 + 256 * (formula as u64 + 256 * fourth))
 }
 
-// The row of a controller of a kind, as one number. A POD Pro has two rows of its own, and goes on as a POD: the POD's
-// rows have one caller, so that the compiler keeps them in this function.
+// The same as one number. A POD Pro has two rows of its own, and goes on as a POD: the POD's rows have one caller, so
+// that the compiler keeps them in this function. It has several itself, so that it stays a short call.
 pub(crate) fn packed_row(controller: u32, kind: Kind) -> u64
     ensures { λ r. ⌜ r ≡ packedOf (rowOf kind controller) ⌝ }
 {

@@ -76,6 +76,7 @@ fn is_program_change(status: u8, number: u8, kind: Kind) -> bool
     false
 }
 
+// A controller of a player: 3, or why it is refused.
 pub(crate) fn controller(number: u8, value: u8, player: u32, kind: Kind, memory: &mut [u8]) -> u8
     requires { ⌜ HoldsMemory kind (now memory) ⌝ }
     ensures { λ r. ⌜ ((marks : List ℕ) → outcome (numberAnswer r) (heldOf (now (memory .exit)) marks) [] ≡ controllerDoes kind player number value (heldOf (now (memory .entry)) marks)) ⌝ }
