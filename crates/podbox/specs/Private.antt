@@ -1,12 +1,13 @@
 -- What private functions ask before they act on what a byte did, and a sound receiver gives. No promise rests on it.
-use Prim.Native.Nat.{ℕ, _≤_, _<_}
-use mathlib.Core.Bool.{cond}
+use Prim.Native.Nat.{ℕ, _+_, _*_, _≤_, _<_}
+use mathlib.Core.Bool.{Bool, cond, _&&_}
 use mathlib.Core.List.{List}
-use lib.Dec.{eqb}
+use lib.Dec.{eqb, leb}
 use lib.ListN.{length}
 use Rattle.ground.specs.Tests.{tested}
 use Rattle.kinds.specs.declared.Kind.{Kind}
-use Rattle.programs.specs.Memory.{memorySize, markCount}
+use Rattle.kinds.specs.Kinds.{largest}
+use Rattle.programs.specs.Memory.{programCount, memorySize, markCount}
 use Rattle.programs.specs.Held.{Held}
 use Rattle.framing.specs.declared.Event.{Event}
 use Rattle.framing.specs.declared.Event.the-variants as event
@@ -29,6 +30,20 @@ HoldsMarks marks = markCount ≤ length marks
 
 abbrev pub HasRoom : Kind → List ℕ → Type 0
 HasRoom kind buffer = longest kind ≤ length buffer
+
+-- the buffers that a byte call asks for, by their lengths: "A call tests 30" first
+unfoldable pub areLent : Kind → ℕ → ℕ → ℕ → ℕ → Bool
+areLent kind memory marks receive reply = leb (memorySize kind) memory && (leb markCount marks && (leb (longest kind) receive && leb (longest kind) reply))
+
+-- memory, and a receive and a reply buffer, that serve a box of any kind: no kind has larger programs
+abbrev pub largestMemory : ℕ
+largestMemory = (programCount + 1) * largest
+
+abbrev pub largestBuffer : ℕ
+largestBuffer = 9 + 2 * (programCount * largest)
+
+unfoldable pub areLargest : ℕ → ℕ → ℕ → Bool
+areLargest memory receive reply = leb largestMemory memory && (leb largestBuffer receive && leb largestBuffer reply)
 
 -- a place that a byte goes to, and a count of bytes that stand, are in the receive buffer
 abbrev pub Within : Kind → Event → Type 0

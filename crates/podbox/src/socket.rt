@@ -9,7 +9,7 @@ ghost use Rattle.sockets.specs.Promise.{socketOf, stepDoes, byteOf};
 ghost use Rattle.sysex.specs.Numbers.{refused};
 ghost use Rattle.podbox.specs.Settings.{isValid, areMarks};
 ghost use Rattle.podbox.specs.Box.{takeOf};
-ghost use Rattle.podbox.specs.Private.{HoldsMemory, HoldsMarks, HasRoom, Within, kindRules, readyDoes};
+ghost use Rattle.podbox.specs.Private.{HoldsMemory, HoldsMarks, HasRoom, Within, kindRules, readyDoes, areLent, areLargest};
 use crate::Took;
 use crate::channel;
 use crate::settings;
@@ -65,33 +65,56 @@ fn take_lent(
 ) -> Took
     ensures { λ r. ⌜ took (r .receiver) (r .answer) (heldOf (now (memory .exit)) (now (marks .exit))) (now (receive .exit)) (now (reply .exit)) ≡ byteOf (kindRules kind settings) socket byte (lent receiver (heldOf (now (memory .entry)) (now (marks .entry))) (now (receive .entry)) (now (reply .entry))) ⌝ }
 {
-    if memory.len() < programs::memory_size(kind) {
-        return refused(receiver, 30);
+    if are_lent(memory.len(), marks.len(), receive.len(), reply.len(), kind) {
+        if 1 < socket {
+            return refused(receiver, 31);
+        }
+        return take_ready(
+            receiver,
+            socket,
+            byte,
+            kind,
+            settings,
+            memory,
+            marks,
+            receive,
+            reply,
+        );
     }
-    if marks.len() < MARKS {
-        return refused(receiver, 30);
+    refused(receiver, 30)
+}
+
+// Whether the buffers are as long as the kind asks for. A box that may be set as any kind lends the largest, and these
+// are asked for first: their lengths are constants.
+fn are_lent(memory: usize, marks: usize, receive: usize, reply: usize, kind: Kind) -> bool
+    ensures { λ r. ⌜ r ≡ areLent kind memory marks receive reply ⌝ }
+{
+    if marks < MARKS {
+        return false;
+    }
+    if are_largest(memory, receive, reply) {
+        return true;
+    }
+    if memory < programs::memory_size(kind) {
+        return false;
     }
     let longest = sysex::longest(kind);
-    if receive.len() < longest {
-        return refused(receiver, 30);
+    if receive < longest {
+        return false;
     }
-    if reply.len() < longest {
-        return refused(receiver, 30);
+    longest <= reply
+}
+
+fn are_largest(memory: usize, receive: usize, reply: usize) -> bool
+    ensures { λ r. ⌜ r ≡ areLargest memory receive reply ⌝ }
+{
+    if memory < settings::MEMORY {
+        return false;
     }
-    if 1 < socket {
-        return refused(receiver, 31);
+    if receive < settings::LONGEST {
+        return false;
     }
-    take_ready(
-        receiver,
-        socket,
-        byte,
-        kind,
-        settings,
-        memory,
-        marks,
-        receive,
-        reply,
-    )
+    settings::LONGEST <= reply
 }
 
 fn refused(receiver: Receiver, number: u8) -> Took
