@@ -4,7 +4,6 @@ use mathlib.Core.Bool.{_&&_}
 use mathlib.Core.Path.{_∙_, sym}
 use lib.Dec.{leb}
 use lib.ListN.{length}
-use native.Mathlib.Omega.{arith}
 use borrow.Author.Tests.{le-leb}
 use Rattle.ground.proofs.Tests.{tests, cond-both}
 use Rattle.programs.specs.Memory.{markCount}
