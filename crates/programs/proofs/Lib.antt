@@ -1,3 +1,4 @@
+pub mod Players
 pub mod Parts
 pub mod Spares
 pub mod Slots

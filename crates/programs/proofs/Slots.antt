@@ -10,12 +10,13 @@ use Rattle.ground.proofs.Tests.{by}
 use Rattle.kinds.specs.declared.Kind.{Kind}
 use Rattle.kinds.specs.Kinds.{sizeOf, hasSpare}
 use Rattle.kinds.proofs.AnyKind.{size-bounds}
+use Rattle.programs.specs.declared.Player.{Player}
 use Rattle.programs.specs.Spares.{withoutSpares}
 use Rattle.programs.specs.Held.{Held, Target, One, Edit, All, placeFor, countFor, bytesIn, slotFor, slotsFor, sentSize, sentFor, received, marked, goesLong, bytesOut}
 use Rattle.programs.proofs.Parts.{put-length}
 use Rattle.programs.proofs.Spares.{with-length, without-length}
 
-pub place-slots : (kind : Kind) (player : ℕ) (t : Target) → slotFor player t * sizeOf kind ≡ placeFor kind player t
+pub place-slots : (kind : Kind) (player : Player) (t : Target) → slotFor player t * sizeOf kind ≡ placeFor kind player t
 place-slots kind player (One p) = refl
 place-slots kind player Edit = refl
 place-slots kind player All = omega arith
@@ -51,7 +52,7 @@ received-length kind t true bytes e = e ∙ long-all kind t
 received-length kind t false bytes e = with-length (sizeOf kind) (size-bounds kind .0) (slotsFor t) bytes (e ∙ sent-slots kind false t) ∙ count-slots kind t
 
 -- what goes out has the bytes of a dump of that length, no more than are named
-pub out-length : (kind : Kind) (player : ℕ) (t : Target) (held : Held) → placeFor kind player t + countFor kind t ≤ length (held .memory)
+pub out-length : (kind : Kind) (player : Player) (t : Target) (held : Held) → placeFor kind player t + countFor kind t ≤ length (held .memory)
     → length (bytesOut kind player t held) ≡ sentFor kind (goesLong kind player t held) t
 out-length kind player t held h = go (goesLong kind player t held)
   where
@@ -62,11 +63,11 @@ out-length kind player t held h = go (goesLong kind player t held)
     go true = whole ∙ sym (long-all kind t)
     go false = without-length (sizeOf kind) (size-bounds kind .0) (slotsFor t) _ (whole ∙ sym (count-slots kind t)) ∙ sym (sent-slots kind false t)
 
-pub out-most : (kind : Kind) (player : ℕ) (t : Target) (held : Held) → placeFor kind player t + countFor kind t ≤ length (held .memory) → length (bytesOut kind player t held) ≤ countFor kind t
+pub out-most : (kind : Kind) (player : Player) (t : Target) (held : Held) → placeFor kind player t + countFor kind t ≤ length (held .memory) → length (bytesOut kind player t held) ≤ countFor kind t
 out-most kind player t held h = omega (arith, out-length kind player t held h, sent-most kind (goesLong kind player t held) t)
 
 -- as many marks are there as were
-pub marked-length : (kind : Kind) (player : ℕ) (t : Target) (long : Bool) (marks : List ℕ) → slotFor player t + slotsFor t ≤ length marks
+pub marked-length : (kind : Kind) (player : Player) (t : Target) (long : Bool) (marks : List ℕ) → slotFor player t + slotsFor t ≤ length marks
     → length (marked kind player t long marks) ≡ length marks
 marked-length kind player t long marks h =
     by (λ (after : List ℕ). length after ≡ length marks) (hasSpare kind) _ _

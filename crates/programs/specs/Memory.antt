@@ -1,11 +1,15 @@
 -- "The box and what it holds". Every length derives from the kind, by the size of its programs.
 use Prim.Native.Nat.{ℕ, _+_, _*_}
+use mathlib.Core.Bool.{Bool, cond}
 use mathlib.Core.List.{List, _++_}
+use lib.Dec.{eqb, leb}
 use lib.ListN.{take, drop}
 use Rattle.kinds.specs.declared.Kind.{Kind}
 use Rattle.kinds.specs.Kinds.{sizeOf}
+use Rattle.programs.specs.declared.Player.{Player}
+use Rattle.programs.specs.declared.Player.the-variants as players
 
--- "36 programs (0x00 to 0x23, shown 1A to 9D) and one edit buffer", each of the kind's size
+-- "36 programs (0x00 to 0x23, shown 1A to 9D)", each of the kind's size
 abbrev pub programCount : ℕ
 programCount = 36
 
@@ -16,23 +20,32 @@ lastProgram = 0x23
 abbrev pub programPlace : Kind → ℕ → ℕ
 programPlace kind program = program * sizeOf kind
 
--- the edit buffer of a player, the socket that sends, behind the programs: one edit buffer serves both
-abbrev pub editSlot : ℕ → ℕ
-editSlot player = programCount
+-- "socket 0 is player one and socket 1 player two": the numbers by which a call names its player, and 31 is for one that "is not 0 or 1". Of a number that is
+-- no player's it does not matter which player it gives.
+unfoldable pub isPlayer : ℕ → Bool
+isPlayer playerNumber = leb playerNumber 1
 
-abbrev pub editPlace : Kind → ℕ → ℕ
+unfoldable pub playerOf : ℕ → Player
+playerOf playerNumber = cond (eqb playerNumber 0) players.One players.Two
+
+-- "each has an edit buffer, both share the 36 programs. Memory grows by one edit buffer, player two's, last."
+unfoldable pub editSlot : Player → ℕ
+editSlot players.One = programCount
+editSlot players.Two = programCount + 1
+
+abbrev pub editPlace : Kind → Player → ℕ
 editPlace kind player = editSlot player * sizeOf kind
 
--- the bytes of all programs, and of memory: "2,664 bytes in all", or "2,960"; "More may be lent; the rest is not touched."
+-- the bytes of all programs, and of memory; "More may be lent; the rest is not touched."
 abbrev pub allSize : Kind → ℕ
 allSize kind = programCount * sizeOf kind
 
 abbrev pub memorySize : Kind → ℕ
-memorySize kind = (programCount + 1) * sizeOf kind
+memorySize kind = (programCount + 2) * sizeOf kind
 
--- "Each program and the edit buffer now carry a mark": in the order of memory
+-- "Each program and the edit buffer now carry a mark", each player's: in the order of memory
 abbrev pub markCount : ℕ
-markCount = programCount + 1
+markCount = programCount + 2
 
 -- `count` bytes from a place on, and memory with others in their place
 abbrev pub partOf : ℕ → ℕ → List ℕ → List ℕ
