@@ -5,6 +5,7 @@ use mathlib.Core.Logic.{⊎-elim}
 use mathlib.Core.Path.{_≡_, refl}
 use native.Mathlib.Omega.{arith}
 use Rattle.kinds.specs.declared.Kind.{Kind}
+use Rattle.programs.specs.declared.Player.{Player}
 use Rattle.programs.specs.Held.{Held}
 use Rattle.sysex.specs.declared.Settings.{Settings}
 use Rattle.sysex.specs.declared.Order.{Order}
@@ -13,7 +14,7 @@ use Rattle.sysex.specs.Numbers.{refused, answerNumber, orderNumber, IsDone}
 use Rattle.sysex.proofs.Numbered.{check-number}
 use Rattle.carrying.specs.Carrying.{orderDoes}
 
-module _ (kind : Kind) (settings : Settings) (player : ℕ) (body : List ℕ) (held : Held) where
+module _ (kind : Kind) (settings : Settings) (player : Player) (body : List ℕ) (held : Held) where
   -- an order that is carried out answers with its number
   pub does-number : (o : Order) → answerNumber (orderDoes kind settings player o body held .answer) ≡ orderNumber o
   unfolding orderDoes

@@ -17,6 +17,7 @@ use Rattle.halves.specs.HalfBytes.{join}
 use Rattle.kinds.specs.declared.Kind.{Kind}
 use Rattle.kinds.specs.Kinds.{sizeOf, hasSpare, largest}
 use Rattle.kinds.proofs.AnyKind.{size-bounds}
+use Rattle.programs.specs.declared.Player.{Player}
 use Rattle.programs.specs.Memory.{programCount, lastProgram, memorySize, markCount, partOf, putPart}
 use Rattle.programs.specs.Spares.{withSpares, withoutSpares, allSet}
 use Rattle.programs.specs.Held.{Held, heldOf, Target, slotFor, slotsFor}
@@ -28,7 +29,7 @@ use Rattle.carrying.specs.Carrying.{sending, answering, storing, bodyDoe
 use Rattle.carrying.specs.Private.{slotsLong, slotsSent, slotsMarked, slotsStored}
 
 -- the dump of the slots that are named is the answer to their request
-pub slots-sent : (kind : Kind) (player : ℕ) (t : Target) (slot : ℕ) (held : Held) (reply : List ℕ) → slot ≡ slotFor player t
+pub slots-sent : (kind : Kind) (player : Player) (t : Target) (slot : ℕ) (held : Held) (reply : List ℕ) → slot ≡ slotFor player t
     → slotsSent kind (typeFor t) (ppFor t) slot (slotsFor t) held reply ≡ leaves (answering kind player t held) reply
 unfolding slotsLong
 slots-sent kind player t slot held reply e =
@@ -39,7 +40,7 @@ slots-sent kind player t slot held reply e =
     (out (cond (hasSpare kind) (allSet (partOf (e i) (slotsFor t) (held .marks))) true) (partOf (place i) (count i) (held .memory))))) held) reply
 
 -- and a dump that is stored in them is what its message does
-pub slots-stored : (kind : Kind) (player : ℕ) (t : Target) (slot : ℕ) (body : List ℕ) (held : Held) → slot ≡ slotFor player t
+pub slots-stored : (kind : Kind) (player : Player) (t : Target) (slot : ℕ) (body : List ℕ) (held : Held) → slot ≡ slotFor player t
     → slotsStored kind (typeFor t) slot (slotsFor t) body held ≡ storing kind player t body held .held
 unfolding slotsMarked
 slots-stored kind player t slot body held e =
@@ -141,7 +142,7 @@ pub program-inside : (size p : ℕ) → p ≤ lastProgram → p * size + size �
 program-inside size p h = let most = mul-le-mul-right size h in omega arith
 
 -- what a call does where the buffers that are lent are long enough
-pub carry-long : (kind : Kind) (settings : Settings) (player : ℕ) (body : List ℕ) (held : Held) (reply : List ℕ) → memorySize kind ≤ length (held .memory) → markCount ≤ length (held .marks)
+pub carry-long : (kind : Kind) (settings : Settings) (player : Player) (body : List ℕ) (held : Held) (reply : List ℕ) → memorySize kind ≤ length (held .memory) → markCount ≤ length (held .marks)
     → longest kind ≤ length reply
     → carryOf kind settings player body held reply ≡ leaves (bodyDoes kind settings player body held) reply
 unfolding carryOf

@@ -8,6 +8,7 @@ use Rattle.ground.specs.Calls as any
 use Rattle.ground.specs.Calls.{outcome, left, leaves}
 use Rattle.halves.specs.HalfBytes.{join}
 use Rattle.kinds.specs.declared.Kind.{Kind}
+use Rattle.programs.specs.declared.Player.{Player}
 use Rattle.programs.specs.Memory.{memorySize, markCount}
 use Rattle.programs.specs.Held.{Held, Target, One, Edit, All, storeIn, bytesOut}
 use Rattle.sysex.specs.declared.Settings.{Settings}
@@ -33,15 +34,15 @@ abbrev pub sending : List ℕ → Held → Outcome
 sending bytes held = outcome (Sent (length bytes)) held bytes
 
 -- "Requests are answered by the dump with the same type"
-abbrev pub answering : Kind → ℕ → Target → Held → Outcome
+abbrev pub answering : Kind → Player → Target → Held → Outcome
 answering kind player t held = sending (ended (dumpBody kind t (bytesOut kind player t held))) held
 
 -- the bytes of a dump's data become what it names
-abbrev pub storing : Kind → ℕ → Target → List ℕ → Held → Outcome
+abbrev pub storing : Kind → Player → Target → List ℕ → Held → Outcome
 storing kind player t body held = outcome Stored (storeIn kind player t (isLong kind t body) (join (drop (dataPlace (typeFor t)) body)) held) []
 
 -- the order of a player's message
-unfoldable pub orderDoes : Kind → Settings → ℕ → Order → List ℕ → Held → Outcome
+unfoldable pub orderDoes : Kind → Settings → Player → Order → List ℕ → Held → Outcome
 orderDoes kind settings player (order.Identify cc) body held = sending (identityReply kind settings cc) held
 orderDoes kind settings player (order.SendProgram p) body held = answering kind player (One p) held
 orderDoes kind settings player order.SendEdit body held = answering kind player Edit held
@@ -52,7 +53,7 @@ orderDoes kind settings player order.StoreAll body held = storing kind player Al
 orderDoes kind settings player (order.Refused check) body held = refusing held (checkNumber check)
 
 -- what a body does
-abbrev pub bodyDoes : Kind → Settings → ℕ → List ℕ → Held → Outcome
+abbrev pub bodyDoes : Kind → Settings → Player → List ℕ → Held → Outcome
 bodyDoes kind settings player body held = orderDoes kind settings player (judgeOf kind settings body) body held
 
 -- 30 "a lent buffer too short": memory by its length, what the box holds, and a receive or a reply buffer; "too few marks lent is 30"
@@ -71,6 +72,6 @@ bufferTest kind buffer = test 30 (leb (longest kind) (length buffer))
 abbrev pub carryTests : Kind → Held → List ℕ → List (Test ℕ)
 carryTests kind held reply = heldTest kind held ∷ marksTest held ∷ bufferTest kind reply ∷ []
 
-unfoldable pub carryOf : Kind → Settings → ℕ → List ℕ → Held → List ℕ → Left
+unfoldable pub carryOf : Kind → Settings → Player → List ℕ → Held → List ℕ → Left
 carryOf kind settings player body held reply =
     tested (carryTests kind held reply) (λ number. left (refused number) held reply) (leaves (bodyDoes kind settings player body held) reply)

@@ -16,6 +16,7 @@ ghost use Rattle.carrying.specs.Private.{Holds, HasData, Fits, slotsLong
 use kinds::Kind;
 use programs::MARKS;
 use programs::PROGRAMS;
+use programs::Player;
 use sysex::Answer;
 use sysex::Order;
 use sysex::Settings;
@@ -23,7 +24,7 @@ use sysex::Settings;
 // Does what a player's body asks for.
 pub fn carry_out(
     body: &[u8],
-    player: u32,
+    player: Player,
     kind: Kind,
     settings: Settings,
     memory: &mut [u8],
@@ -48,7 +49,7 @@ pub fn carry_out(
 fn act(
     order: Order,
     body: &[u8],
-    player: u32,
+    player: Player,
     kind: Kind,
     settings: Settings,
     memory: &mut [u8],

@@ -7,15 +7,16 @@ use lib.ListN.{length}
 use Rattle.ground.specs.Tests.{Test, test, tested}
 use Rattle.kinds.specs.declared.Kind.{Kind}
 use Rattle.kinds.specs.Kinds.{isKind, kindOf}
-use Rattle.programs.specs.Memory.{memorySize}
+use Rattle.programs.specs.declared.Player.{Player}
+use Rattle.programs.specs.Memory.{memorySize, isPlayer, playerOf}
 use Rattle.programs.specs.Held.{Held}
 use Rattle.framing.specs.declared.Receiver.{Receiver}
 use Rattle.framing.specs.Receiver.{soundOf}
 use Rattle.sockets.specs.Framer.{Message}
-use Rattle.sockets.specs.Calls.{Finish, FromSocket, FromDirect}
+use Rattle.sockets.specs.Calls.{Socket, Finish, FromSocket, FromDirect}
 use Rattle.sockets.specs.Box as any
 use Rattle.sockets.specs.Box.{Said, said, Rules, Lent, lent}
-use Rattle.sockets.specs.Promise.{socketNumber, byteOf, directOf}
+use Rattle.sockets.specs.Promise.{socketNumber, socketOf, byteOf, directOf}
 use Rattle.sysex.specs.declared.Settings.{Settings}
 use Rattle.sysex.specs.declared.Answer.{Answer}
 use Rattle.sysex.specs.declared.Answer.the-variants.{Taken, Cut}
@@ -48,63 +49,70 @@ markedTest held = test 32 (areMarks (held .marks))
 abbrev pub readyTests : Kind → Settings → Receiver → Held → List (Test ℕ)
 readyTests kind settings receiver held = test 32 (soundOf (limit kind) receiver) ∷ settingsTest settings ∷ markedTest held ∷ []
 
--- "A call tests 30, 31, 32 in that order": 31 "socket not 0 or 1"
+-- 31 "socket not 0 or 1", and "wherever a named player is not 0 or 1"
+abbrev pub playerTest : ℕ → Test ℕ
+playerTest playerNumber = test 31 (isPlayer playerNumber)
+
+-- "A call tests 30, 31, 32 in that order": the socket is its player's
 abbrev pub lentTests : Kind → Settings → ℕ → Lent Held → List (Test ℕ)
 lentTests kind settings socket entry =
     heldTest kind (entry .held) ∷ marksTest (entry .held) ∷ bufferTest kind (entry .receive) ∷ bufferTest kind (entry .reply)
-    ∷ test 31 (leb socket 1) ∷ readyTests kind settings (entry .receiver) (entry .held)
+    ∷ playerTest socket ∷ readyTests kind settings (entry .receiver) (entry .held)
 
 abbrev pub takeTests : ℕ → Settings → ℕ → Lent Held → List (Test ℕ)
 takeTests kindNumber settings socket entry = kindTest kindNumber ∷ lentTests (kindOf kindNumber) settings socket entry
 
--- a whole message "has no socket and no receiver: 30 for the memory or the reply buffer, 32 for a setting"; and for the marks, as above
-abbrev pub handedTests : Kind → Settings → Held → List ℕ → List (Test ℕ)
-handedTests kind settings held reply = heldTest kind held ∷ marksTest held ∷ bufferTest kind reply ∷ settingsTest settings ∷ markedTest held ∷ []
+-- a whole message "has no socket and no receiver: 30 for the memory or the reply buffer, 32 for a setting"; and for the marks, as above. It names its player,
+-- "31 after 30"
+abbrev pub handedTests : Kind → Settings → ℕ → Held → List ℕ → List (Test ℕ)
+handedTests kind settings playerNumber held reply =
+    heldTest kind held ∷ marksTest held ∷ bufferTest kind reply ∷ playerTest playerNumber ∷ settingsTest settings ∷ markedTest held ∷ []
 
-abbrev pub wholeTests : ℕ → Settings → Held → List ℕ → List (Test ℕ)
-wholeTests kindNumber settings held reply = kindTest kindNumber ∷ handedTests (kindOf kindNumber) settings held reply
+abbrev pub wholeTests : ℕ → Settings → ℕ → Held → List ℕ → List (Test ℕ)
+wholeTests kindNumber settings playerNumber held reply = kindTest kindNumber ∷ handedTests (kindOf kindNumber) settings playerNumber held reply
 
--- "then 30 and 32": a list has neither socket nor reply
-abbrev pub memoryTests : Kind → Settings → ℕ → List (Test ℕ)
-memoryTests kind settings memory = memoryTest kind memory ∷ settingsTest settings ∷ []
+-- "then 30 and 32", and 31 between them: a list has neither socket nor reply
+abbrev pub memoryTests : Kind → Settings → ℕ → ℕ → List (Test ℕ)
+memoryTests kind settings playerNumber memory = memoryTest kind memory ∷ playerTest playerNumber ∷ settingsTest settings ∷ []
 
 -- A list of moves, by how many they are and the lengths of what is lent. "Refusals, tested 33, 34, then 30 and 32: more moves than 256 gives 33; a number
 -- buffer shorter than the list gives 34"; and 32 for the kind stands just before 30
-abbrev pub listTests : ℕ → Settings → ℕ → ℕ → ℕ → List (Test ℕ)
-listTests kindNumber settings count memory numbers =
-    test 33 (leb count mostMoves) ∷ test 34 (leb count numbers) ∷ kindTest kindNumber ∷ memoryTests (kindOf kindNumber) settings memory
+abbrev pub listTests : ℕ → Settings → ℕ → ℕ → ℕ → ℕ → List (Test ℕ)
+listTests kindNumber settings playerNumber count memory numbers =
+    test 33 (leb count mostMoves) ∷ test 34 (leb count numbers) ∷ kindTest kindNumber ∷ memoryTests (kindOf kindNumber) settings playerNumber memory
 
-abbrev pub movesTests : ℕ → Settings → List Move → Held → List ℕ → List (Test ℕ)
-movesTests kindNumber settings moves held numbers = listTests kindNumber settings (length moves) (length (held .memory)) (length numbers)
+abbrev pub movesTests : ℕ → Settings → ℕ → List Move → Held → List ℕ → List (Test ℕ)
+movesTests kindNumber settings playerNumber moves held numbers =
+    listTests kindNumber settings playerNumber (length moves) (length (held .memory)) (length numbers)
 
--- what a direct call hands over: a whole message, or a list of moves
+-- what a direct call hands over, a whole message or a list of moves: it names its player by number
 pub data Given : Type 0 where
-  Whole : List ℕ → Given
-  Moves : List Move → Given
+  Whole : ℕ → List ℕ → Given
+  Moves : ℕ → List Move → Given
 
--- a message that such a call finishes: the panel's as it was handed over, or that of a move
+-- a message that such a call finishes, the panel's as it was handed over, or that of a move: it is the player's of a socket
 pub data Delivered : Type 0 where
-  FromPanel : List ℕ → Delivered
-  FromList : Message → Delivered
+  FromPanel : Socket → List ℕ → Delivered
+  FromList : Socket → Message → Delivered
 
 -- "A message the panel hands over whole is finished at its call", and "each move of a list .. as a message finished at that call"
 abbrev pub handsOf : Settings → Given → List Delivered
-handsOf settings (Whole message) = FromPanel message ∷ []
-handsOf settings (Moves moves) = map (λ (move : Move). FromList (moveMessage settings move)) moves
+handsOf settings (Whole playerNumber message) = FromPanel (socketOf playerNumber) message ∷ []
+handsOf settings (Moves playerNumber moves) = map (λ (move : Move). FromList (socketOf playerNumber) (moveMessage settings move)) moves
 
 abbrev pub directTests : ℕ → Settings → Given → Held → List ℕ → List (Test ℕ)
-directTests kindNumber settings (Whole message) held reply = wholeTests kindNumber settings held reply
-directTests kindNumber settings (Moves moves) held numbers = movesTests kindNumber settings moves held numbers
+directTests kindNumber settings (Whole playerNumber message) held reply = wholeTests kindNumber settings playerNumber held reply
+directTests kindNumber settings (Moves playerNumber moves) held numbers = movesTests kindNumber settings playerNumber moves held numbers
 
--- the messages of the panel and of lists are those of socket 0's player
-abbrev pub panel : ℕ
-panel = 0
+-- "socket 0 is player one and socket 1 player two"
+abbrev pub socketPlayer : Socket → Player
+socketPlayer s = playerOf (socketNumber s)
 
--- what a finished message does, from a socket, from the panel and from a list
+-- what a finished message does, from a socket, from the panel and from a list: that of its player
 abbrev pub finishDoes : Kind → Settings → Held → Finish Delivered → Outcome
-finishDoes kind settings held (FromSocket s m) = messageDoes kind settings (socketNumber s) held m
-finishDoes kind settings held (FromDirect (FromPanel message)) = handedDoes kind settings panel message held
-finishDoes kind settings held (FromDirect (FromList m)) = messageDoes kind settings panel held m
+finishDoes kind settings held (FromSocket s m) = messageDoes kind settings (socketPlayer s) held m
+finishDoes kind settings held (FromDirect (FromPanel s message)) = handedDoes kind settings (socketPlayer s) message held
+finishDoes kind settings held (FromDirect (FromList s m)) = messageDoes kind settings (socketPlayer s) held m
 
 -- 0 "byte taken, nothing finished", 4 "SysEx cut", and a call that is turned away
 abbrev pub plainAnswer : ℕ → Answer
@@ -121,13 +129,13 @@ noted saids = map (λ (a : Said Answer). answerNumber (a .answer)) saids
 
 -- what a direct call says: a list is taken, 0, and the numbers of its moves are written
 abbrev pub reports : Given → List (Said Answer) → Said Answer
-reports (Whole message) saids = only saids
-reports (Moves moves) saids = said Taken (noted saids)
+reports (Whole playerNumber message) saids = only saids
+reports (Moves playerNumber moves) saids = said Taken (noted saids)
 
 -- how much it has written: a reply of the length that is told, or a number for each move
 abbrev pub extentOf : Given → Answer → ℕ
-extentOf (Whole message) answer = answerLength answer
-extentOf (Moves moves) answer = length moves
+extentOf (Whole playerNumber message) answer = answerLength answer
+extentOf (Moves playerNumber moves) answer = length moves
 
 -- the rules that the laws of two sockets are about: of a box of some kind, whose calls are put to these tests
 abbrev pub rulesWith : (ℕ → Lent Held → List (Test ℕ)) → (Given → Held → List ℕ → List (Test ℕ)) → Kind → Settings → Rules
@@ -160,17 +168,17 @@ Took = any.Took Held Answer
 abbrev pub takeOf : ℕ → Settings → ℕ → Receiver → ℕ → Held → List ℕ → List ℕ → Took
 takeOf kindNumber settings socket receiver byte held receive reply = byteOf (boxRules kindNumber settings) socket byte (lent receiver held receive reply)
 
--- a whole message
-abbrev pub wholeOf : ℕ → Settings → List ℕ → Held → List ℕ → Left
-wholeOf kindNumber settings message held reply = directOf (boxRules kindNumber settings) (Whole message) held reply
+-- a whole message of a player
+abbrev pub wholeOf : ℕ → Settings → ℕ → List ℕ → Held → List ℕ → Left
+wholeOf kindNumber settings playerNumber message held reply = directOf (boxRules kindNumber settings) (Whole playerNumber message) held reply
 
--- a list of moves: the reply is the buffer of their numbers
-abbrev pub movesOf : ℕ → Settings → List Move → Held → List ℕ → Left
-movesOf kindNumber settings moves held numbers = directOf (boxRules kindNumber settings) (Moves moves) held numbers
+-- a list of moves of a player: the reply is the buffer of their numbers
+abbrev pub movesOf : ℕ → Settings → ℕ → List Move → Held → List ℕ → Left
+movesOf kindNumber settings playerNumber moves held numbers = directOf (boxRules kindNumber settings) (Moves playerNumber moves) held numbers
 
 -- whether a list is taken, and what one move does by itself, where memory is lent: 30 for a short one
-unfoldable pub listAnswer : ℕ → Settings → ℕ → ℕ → ℕ → Answer
-listAnswer kindNumber settings count memory numbers = tested (listTests kindNumber settings count memory numbers) refused Taken
+unfoldable pub listAnswer : ℕ → Settings → ℕ → ℕ → ℕ → ℕ → Answer
+listAnswer kindNumber settings playerNumber count memory numbers = tested (listTests kindNumber settings playerNumber count memory numbers) refused Taken
 
-unfoldable pub moveDoes : Kind → ℕ → Move → Held → Outcome
+unfoldable pub moveDoes : Kind → Player → Move → Held → Outcome
 moveDoes kind player move held = tested (heldTest kind held ∷ []) (refusing held) (controllerDoes kind player (move .controller) (move .value) held)

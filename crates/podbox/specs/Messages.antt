@@ -1,4 +1,4 @@
--- A finished message, and what carrying it out does. It goes with its sender, a player: the number of the socket that finished it.
+-- A finished message, and what carrying it out does. It goes with its sender, a player.
 use Prim.Native.Nat.{ℕ, _-_, _/_, _%_}
 use mathlib.Core.Bool.{Bool, true, cond, _&&_, _||_}
 use mathlib.Core.List.{List, [], _∷_}
@@ -7,6 +7,7 @@ use Rattle.ground.specs.Tests.{Test, test, tested}
 use Rattle.ground.specs.Calls.{outcome}
 use Rattle.kinds.specs.declared.Kind.{Kind}
 use Rattle.kinds.specs.Kinds.{takesProgramChange}
+use Rattle.programs.specs.declared.Player.{Player}
 use Rattle.programs.specs.Memory.{programCount}
 use Rattle.programs.specs.Held.{Held, One, Edit, bytesIn, putIn}
 use Rattle.controls.specs.declared.Change.{Change}
@@ -42,21 +43,21 @@ changeAnswer change.Applied = Applied
 changeAnswer (change.Refused number) = refused number
 
 -- a controller acts on "its bytes of the edit buffer", the sender's; "A controller leaves the mark as it was"
-abbrev pub controllerDoes : Kind → ℕ → ℕ → ℕ → Held → Outcome
+abbrev pub controllerDoes : Kind → Player → ℕ → ℕ → Held → Outcome
 controllerDoes kind player controller value held =
     let done = applyOf kind controller value (bytesIn kind player Edit held) in
     outcome (changeAnswer (done .answer)) (putIn kind player Edit (done .edit) held) []
 
 -- a program change "copies program 0 to 35 into the edit buffer", the sender's, "and returns 1"
-abbrev pub programChangeDoes : Kind → ℕ → ℕ → Held → Outcome
+abbrev pub programChangeDoes : Kind → Player → ℕ → Held → Outcome
 programChangeDoes kind player number held = outcome Stored (putIn kind player Edit (bytesIn kind player (One (number - 1)) held) held) []
 
-unfoldable pub channelDoes : Kind → Settings → ℕ → ℕ → ℕ → ℕ → Held → Outcome
+unfoldable pub channelDoes : Kind → Settings → Player → ℕ → ℕ → ℕ → Held → Outcome
 channelDoes kind settings player status first second held =
     tested (channelTests kind settings status first) (refusing held)
     (cond (isController status) (controllerDoes kind player first second held) (programChangeDoes kind player first held))
 
-unfoldable pub messageDoes : Kind → Settings → ℕ → Held → Message → Outcome
+unfoldable pub messageDoes : Kind → Settings → Player → Held → Message → Outcome
 messageDoes kind settings player held (SysEx body) = bodyDoes kind settings player body held
 messageDoes kind settings player held TooLong = refusing held 10
 messageDoes kind settings player held (Channel status first second) = channelDoes kind settings player status first second held

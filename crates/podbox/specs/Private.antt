@@ -1,10 +1,10 @@
 -- What private functions ask before they act on what a byte did, and a sound receiver gives. No promise rests on it.
 use Prim.Native.Nat.{ℕ, _+_, _*_, _≤_, _<_}
 use mathlib.Core.Bool.{Bool, cond, _&&_}
-use mathlib.Core.List.{List}
+use mathlib.Core.List.{List, []}
 use lib.Dec.{eqb, leb}
 use lib.ListN.{length}
-use Rattle.ground.specs.Tests.{tested}
+use Rattle.ground.specs.Tests.{Test, tested}
 use Rattle.kinds.specs.declared.Kind.{Kind}
 use Rattle.kinds.specs.Kinds.{largest}
 use Rattle.programs.specs.Memory.{programCount, memorySize, markCount}
@@ -19,7 +19,7 @@ use Rattle.sysex.specs.declared.Answer.{Answer}
 use Rattle.sysex.specs.declared.Answer.the-variants.{Taken, Stored, Applied}
 use Rattle.sysex.specs.Forms.{longest}
 use Rattle.sysex.specs.Numbers.{refused}
-use Rattle.podbox.specs.Box.{Took, limit, readyTests, lentTests, handedTests, memoryTests, plainAnswer, rulesWith}
+use Rattle.podbox.specs.Box.{Took, limit, readyTests, lentTests, handedTests, memoryTests, Given, Whole, Moves, plainAnswer, rulesWith}
 
 -- as much is lent as a call asks
 abbrev pub HoldsMemory : Kind → List ℕ → Type 0
@@ -31,13 +31,13 @@ HoldsMarks marks = markCount ≤ length marks
 abbrev pub HasRoom : Kind → List ℕ → Type 0
 HasRoom kind buffer = longest kind ≤ length buffer
 
--- the buffers that a byte call asks for, by their lengths: "A call tests 30" first
+-- the buffers that a byte call asks for, by their lengths: "A call tests 30, 31, 32 in that order"
 unfoldable pub areLent : Kind → ℕ → ℕ → ℕ → ℕ → Bool
 areLent kind memory marks receive reply = leb (memorySize kind) memory && (leb markCount marks && (leb (longest kind) receive && leb (longest kind) reply))
 
 -- memory, and a receive and a reply buffer, that serve a box of any kind: no kind has larger programs
 abbrev pub largestMemory : ℕ
-largestMemory = (programCount + 1) * largest
+largestMemory = (programCount + 2) * largest
 
 abbrev pub largestBuffer : ℕ
 largestBuffer = 9 + 2 * (programCount * largest)
@@ -56,20 +56,24 @@ Within kind (event.SysEx count) = count ≤ limit kind
 Within kind (event.Channel status first second) = Unit {0}
 
 -- the rules behind the test of the kind; no list is put to these tests
+abbrev pub kindTests : Kind → Settings → Given → Held → List ℕ → List (Test ℕ)
+kindTests kind settings (Whole playerNumber message) held reply = handedTests kind settings playerNumber held reply
+kindTests kind settings (Moves playerNumber moves) held numbers = []
+
 abbrev pub kindRules : Kind → Settings → Rules
-kindRules kind settings = rulesWith (lentTests kind settings) (λ given. handedTests kind settings) kind settings
+kindRules kind settings = rulesWith (lentTests kind settings) (kindTests kind settings) kind settings
 
 -- the last tests of a byte call, and the byte
 unfoldable pub readyDoes : Kind → Settings → ℕ → ℕ → Lent Held → Took
-readyDoes kind settings player byte entry =
+readyDoes kind settings socket byte entry =
     tested (readyTests kind settings (entry .receiver) (entry .held))
     (λ number. took (entry .receiver) (plainAnswer number) (entry .held) (entry .receive) (entry .reply))
-    (stepDoes (kindRules kind settings) (socketOf player) byte entry (stepOf (limit kind) (entry .receiver) byte))
+    (stepDoes (kindRules kind settings) (socketOf socket) byte entry (stepOf (limit kind) (entry .receiver) byte))
 
 -- the last tests of a list of moves
-unfoldable pub kindAnswer : Kind → Settings → ℕ → Answer
-kindAnswer kind settings memory = tested (memoryTests kind settings memory) refused Taken
+unfoldable pub kindAnswer : Kind → Settings → ℕ → ℕ → Answer
+kindAnswer kind settings playerNumber memory = tested (memoryTests kind settings playerNumber memory) refused Taken
 
--- what a channel message answers, of its number: 1 "stored", 3 "controller applied", or the refusal
+-- what a channel message answers, of its number: 1 "dump stored", 3 "controller applied", or the refusal
 abbrev pub numberAnswer : ℕ → Answer
 numberAnswer number = cond (eqb number 1) Stored (cond (eqb number 3) Applied (refused number))

@@ -8,6 +8,7 @@ use Rattle.ground.specs.Lists.{allAtMost}
 use Rattle.ground.specs.Tests.{Test, test}
 use Rattle.kinds.specs.declared.Kind.{Kind}
 use Rattle.kinds.specs.Kinds.{deviceOf}
+use Rattle.programs.specs.declared.Player.{Player}
 use Rattle.programs.specs.Held.{Held}
 use Rattle.sysex.specs.declared.Settings.{Settings}
 use Rattle.sysex.specs.declared.Check.{Check}
@@ -40,7 +41,7 @@ messageTests kind settings message =
 unfoldable pub messageOrder : Kind → Settings → List ℕ → Order
 messageOrder kind settings message = judgedBy (messageTests kind settings message) (bodyOrder (bodyOf message))
 
-abbrev pub handedDoes : Kind → Settings → ℕ → List ℕ → Held → Outcome
+abbrev pub handedDoes : Kind → Settings → Player → List ℕ → Held → Outcome
 handedDoes kind settings player message held = orderDoes kind settings player (messageOrder kind settings message) (bodyOf message) held
 
 -- "Tell the customer why": what becomes of a message that a fresh box is handed

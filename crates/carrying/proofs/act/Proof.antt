@@ -5,6 +5,7 @@ use native.Mathlib.Omega.{arith}
 use Rattle.ground.specs.Calls.{left}
 use Rattle.kinds.proofs.AnyKind.{size-bounds}
 use Rattle.programs.specs.Held.{Held, heldOf, One, Edit, All}
+use Rattle.programs.proofs.Players.{slot-inside}
 use Rattle.sysex.specs.declared.Answer.the-variants.{Stored, Sent}
 use Rattle.carrying.specs.Carrying.{orderDoes}
 use Rattle.carrying.proofs.Parts.{slots-sent, slots-stored}
@@ -27,7 +28,7 @@ answer-requires-2 : tie.Need-answer-requires-2
 unfolding orderDoes
 answer-requires-2 c κs =
     let p = c .before .before .before .before .before .before .before .before .before .before .before .pre in
-    ((search needs, omega (arith, c .before .before .before .before .before .before .edit-slot .ensures), omega arith), (p .0 .0, omega (arith, p .0 .1, size-bounds (c .before .before .before .before .before .before .before .before .before .before .before .args .kind) .0)))
+    ((search needs, omega (arith, c .before .before .before .before .before .before .edit-slot .ensures, slot-inside (c .before .before .before .before .before .before .before .before .before .before .before .args .player)), omega arith), (p .0 .0, omega (arith, p .0 .1, size-bounds (c .before .before .before .before .before .before .before .before .before .before .before .args .kind) .0)))
 
 answer-requires-3 : tie.Need-answer-requires-3
 unfolding orderDoes
@@ -47,7 +48,7 @@ unfolding orderDoes
 store-requires-2 c κs =
     let p = c .before .before .before .before .before .before .before .before .before .pre in
     let f = rw (c .before .before .enum-told3 .given .1) at (p .1) in
-    ((omega (arith, c .before .before .before .before .edit-slot .ensures), omega arith, f), p .0 .0)
+    ((omega (arith, c .before .before .before .before .edit-slot .ensures, slot-inside (c .before .before .before .before .before .before .before .before .before .args .player)), omega arith, f), p .0 .0)
 
 store-requires-3 : tie.Need-store-requires-3
 unfolding orderDoes
