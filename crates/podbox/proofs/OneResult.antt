@@ -5,6 +5,7 @@ use mathlib.Core.Path.{_≡_, ap}
 use Rattle.ground.specs.Calls.{left, outcome}
 use Rattle.ground.proofs.OneResult.{one, left-one}
 use Rattle.kinds.specs.declared.Kind.{Kind}
+use Rattle.programs.specs.declared.Player.{Player}
 use Rattle.programs.specs.Held.{Held, heldOf}
 use Rattle.framing.specs.declared.Receiver.{Receiver}
 use Rattle.sockets.specs.Box.{took}
@@ -17,18 +18,18 @@ use Rattle.podbox.specs.declared.Move.{Move}
 use Rattle.podbox.specs.Whole.{reasonOf}
 use Rattle.podbox.specs.Box.{takeOf, wholeOf, listAnswer, moveDoes}
 
-pub whole-message-one : (kindNumber : ℕ) (settings : Settings) (message : List ℕ) (held : Held) (reply : List ℕ) (a b : Answer) (m n : Held) (x y : List ℕ)
-    → left a m x ≡ wholeOf kindNumber settings message held reply → left b n y ≡ wholeOf kindNumber settings message held reply → (a ≡ b) × (m ≡ n) × (x ≡ y)
-whole-message-one kindNumber settings message held reply a b m n x y = left-one
+pub whole-message-one : (kindNumber : ℕ) (settings : Settings) (playerNumber : ℕ) (message : List ℕ) (held : Held) (reply : List ℕ) (a b : Answer) (m n : Held) (x y : List ℕ)
+    → left a m x ≡ wholeOf kindNumber settings playerNumber message held reply → left b n y ≡ wholeOf kindNumber settings playerNumber message held reply → (a ≡ b) × (m ≡ n) × (x ≡ y)
+whole-message-one kindNumber settings playerNumber message held reply a b m n x y = left-one
 
 pub reason-one : (kind : Kind) (message : List ℕ) (r s : Order) → r ≡ reasonOf kind message → s ≡ reasonOf kind message → r ≡ s
 reason-one kind message r s = one
 
-pub list-answer-one : (kindNumber : ℕ) (settings : Settings) (count memory numbers : ℕ) (a b : Answer)
-    → a ≡ listAnswer kindNumber settings count memory numbers → b ≡ listAnswer kindNumber settings count memory numbers → a ≡ b
-list-answer-one kindNumber settings count memory numbers a b = one
+pub list-answer-one : (kindNumber : ℕ) (settings : Settings) (playerNumber count memory numbers : ℕ) (a b : Answer)
+    → a ≡ listAnswer kindNumber settings playerNumber count memory numbers → b ≡ listAnswer kindNumber settings playerNumber count memory numbers → a ≡ b
+list-answer-one kindNumber settings playerNumber count memory numbers a b = one
 
-pub make-move-one : (kind : Kind) (player : ℕ) (move : Move) (memory : List ℕ) (a b : Answer) (m n : List ℕ)
+pub make-move-one : (kind : Kind) (player : Player) (move : Move) (memory : List ℕ) (a b : Answer) (m n : List ℕ)
     → ((marks : List ℕ) → outcome a (heldOf m marks) [] ≡ moveDoes kind player move (heldOf memory marks))
     → ((marks : List ℕ) → outcome b (heldOf n marks) [] ≡ moveDoes kind player move (heldOf memory marks)) → (a ≡ b) × (m ≡ n)
 make-move-one kind player move memory a b m n p q = let e = one (p []) (q []) in (ap (λ (o : Outcome). o .answer) e, ap (λ (o : Outcome). o .held .memory) e)

@@ -11,6 +11,7 @@ use borrow.Author.Tests.{leb-true, leb-false, le-ltb, lt-ltb}
 use Rattle.ground.specs.Tests.{test}
 use Rattle.kinds.specs.declared.Kind.{Kind}
 use Rattle.kinds.specs.Kinds.{deviceOf}
+use Rattle.programs.specs.declared.Player.{Player}
 use Rattle.programs.specs.Held.{Held}
 use Rattle.sockets.specs.Framer.{SysEx}
 use Rattle.sysex.specs.declared.Settings.{Settings}
@@ -45,7 +46,7 @@ module _ (kind : Kind) (settings : Settings) (message : List ℕ) where
       steps false true = refl
       steps false false = refl
 
-  pub handed-does : (player : ℕ) (held : Held) → handedDoes kind settings player message held
+  pub handed-does : (player : Player) (held : Held) → handedDoes kind settings player message held
       ≡ cond (ltb (longest kind) (length message)) (refusing held 10)
       (cond (isFramed message) (messageDoes kind settings player held (SysEx (bodyOf message))) (refusing held 11))
   unfolding messageDoes orderDoes

@@ -9,8 +9,10 @@ use borrow.Author.Tests.{leb-true, eq-eqb}
 use Rattle.ground.proofs.Tests.{both}
 use Rattle.kinds.specs.declared.Kind.{Kind}
 use Rattle.kinds.specs.Kinds.{sizeOf}
+use Rattle.programs.specs.declared.Player.{Player}
 use Rattle.programs.specs.Memory.{memorySize}
 use Rattle.programs.specs.Held.{Held, Edit, placeFor, bytesIn}
+use Rattle.programs.proofs.Players.{edit-inside}
 use Rattle.programs.proofs.Parts.{put-length, edit-length}
 use Rattle.controls.specs.Applying.{applyOf}
 use Rattle.controls.proofs.Controllers.{length-kept}
@@ -24,7 +26,7 @@ pub valid-channel : (settings : Settings) → isValid settings ≡ true → sett
 unfolding isValid
 valid-channel settings valid = leb-true (settings .channel) 15 (both (leb (settings .channel) 15) _ valid .0)
 
-module _ (kind : Kind) (player : ℕ) (held : Held) where
+module _ (kind : Kind) (player : Player) (held : Held) where
   -- "sent one by one on our channel"
   pub on-channel : (settings : Settings) (move : Move) → isValid settings ≡ true
       → messageDoes kind settings player held (moveMessage settings move) ≡ controllerDoes kind player (move .controller) (move .value) held
@@ -37,5 +39,5 @@ module _ (kind : Kind) (player : ℕ) (held : Held) where
       → length (controllerDoes kind player controller value held .held .memory) ≡ length (held .memory)
   controller-length controller value m =
       let edit = bytesIn kind player Edit held in
-      put-length (placeFor kind player Edit) (sizeOf kind) (applyOf kind controller value edit .edit) (held .memory) (omega arith)
+      put-length (placeFor kind player Edit) (sizeOf kind) (applyOf kind controller value edit .edit) (held .memory) (omega (arith, edit-inside kind player))
       (length-kept kind controller value edit ∙ edit-length kind player held m)

@@ -1,4 +1,4 @@
--- A step of a sound receiver stays within the receive buffer, a socket is its sender's number, a program change names a program, and a move's number is its answer.
+-- A step of a sound receiver stays within the receive buffer, a socket is its player's, a program change names a program, and a move's number is its answer.
 use Prim.Native.Nat.{ℕ, zero, suc, _/_, _≤_, _<_}
 use mathlib.Core.Bool.{true, _&&_}
 use mathlib.Core.List.{List}
@@ -7,7 +7,7 @@ use native.Mathlib.Omega.{arith}
 use Rattle.kinds.specs.declared.Kind.{Kind}
 use Rattle.kinds.specs.Kinds.{takesProgramChange}
 use Rattle.kinds.proofs.AnyKind.{size-bounds}
-use Rattle.programs.specs.Memory.{programCount, memorySize, markCount}
+use Rattle.programs.specs.Memory.{programCount, playerOf, memorySize, markCount}
 use lib.Dec.{eqb, leb}
 use borrow.Author.Tests.{leb-true, le-leb, ne-eqb}
 use Rattle.ground.proofs.Tests.{both}
@@ -17,14 +17,14 @@ use Rattle.framing.specs.declared.Event.the-variants.{Nothing, Collect, Cut, Cu
 use Rattle.framing.specs.Receiver.{soundOf}
 use Rattle.framing.specs.Bytes.{stepOf}
 use Rattle.framing.proofs.Keeps.{collects-below, finishes-within}
-use Rattle.sockets.specs.Promise.{socketNumber, socketOf}
+use Rattle.sockets.specs.Promise.{socketOf}
 use Rattle.sysex.specs.Forms.{longest}
 use Rattle.sysex.proofs.Lengths.{longest-bounds}
 use Rattle.controls.specs.Answers.{changeNumber}
 use Rattle.controls.specs.Applying.{applyOf}
 use Rattle.controls.proofs.Controllers.{apply-cases}
 use Rattle.podbox.specs.Messages.{isProgramChange, changeAnswer}
-use Rattle.podbox.specs.Box.{limit}
+use Rattle.podbox.specs.Box.{limit, socketPlayer}
 use Rattle.podbox.specs.Private.{Within, numberAnswer, areLent, largestMemory, largestBuffer, areLargest}
 
 at-event : (kind : Kind) (event : Event) → ((place : ℕ) → event ≡ Collect place → place < limit kind) → ((count : ℕ) → event ≡ SysEx count → count ≤ limit kind) → Within kind event
@@ -46,10 +46,10 @@ step-within kind r byte sound =
     (λ place. collects-below (limit kind) (some-stored kind) r sound byte place)
     (λ count e. finishes-within (limit kind) (some-stored kind) r sound byte count e .1)
 
-pub sender : (player : ℕ) → player ≤ 1 → socketNumber (socketOf player) ≡ player
-sender zero h = refl
-sender (suc zero) h = refl
-sender (suc (suc n)) h = absurd (omega arith)
+pub sender : (socket : ℕ) → socketPlayer (socketOf socket) ≡ playerOf socket
+unfolding playerOf
+sender zero = refl
+sender (suc n) = rw (ne-eqb (suc n) 0 (λ e. omega arith))
 
 pub change-numbered : (kind : Kind) (status number : ℕ) → isProgramChange kind status number ≡ true → (1 ≤ number) × (number ≤ programCount)
 unfolding isProgramChange

@@ -13,6 +13,7 @@ ghost use Rattle.podbox.specs.Private.{HoldsMemory, numberAnswer};
 use controls::Change;
 use kinds::Kind;
 use programs::PROGRAMS;
+use programs::Player;
 use sysex::Answer;
 use sysex::Settings;
 
@@ -20,7 +21,7 @@ pub(crate) fn channel(
     status: u8,
     first: u8,
     second: u8,
-    player: u32,
+    player: Player,
     kind: Kind,
     settings: Settings,
     memory: &mut [u8],
@@ -77,7 +78,7 @@ fn is_program_change(status: u8, number: u8, kind: Kind) -> bool
 }
 
 // A controller of a player: 3, or why it is refused.
-pub(crate) fn controller(number: u8, value: u8, player: u32, kind: Kind, memory: &mut [u8]) -> u8
+pub(crate) fn controller(number: u8, value: u8, player: Player, kind: Kind, memory: &mut [u8]) -> u8
     requires { ⌜ HoldsMemory kind (now memory) ⌝ }
     ensures { λ r. ⌜ ((marks : List ℕ) → outcome (numberAnswer r) (heldOf (now (memory .exit)) marks) [] ≡ controllerDoes kind player number value (heldOf (now (memory .entry)) marks)) ⌝ }
     ensures { λ r. ⌜ 3 ≤ r ⌝ }
@@ -111,7 +112,7 @@ pub(crate) fn number_answer(number: u8) -> Answer
 }
 
 // Programs are counted from 1 here.
-fn change_program(number: u8, player: u32, kind: Kind, memory: &mut [u8])
+fn change_program(number: u8, player: Player, kind: Kind, memory: &mut [u8])
     requires { ⌜ (1 ≤ number) × (number ≤ programCount) ⌝ }
     requires { ⌜ HoldsMemory kind (now memory) ⌝ }
     ensures { λ _. ⌜ ((marks : List ℕ) → outcome Answer.Stored (heldOf (now (memory .exit)) marks) [] ≡ programChangeDoes kind player number (heldOf (now (memory .entry)) marks)) ⌝ }

@@ -15,7 +15,6 @@ pub use settings::FRESH_SETTINGS;
 pub use settings::LONGEST;
 pub use settings::MEMORY;
 pub use settings::Memory;
-pub use settings::PANEL;
 pub use socket::take_byte;
 use sysex::Answer;
 pub use why::reason;

@@ -10,6 +10,7 @@ use crate::Move;
 use crate::channel;
 use crate::settings;
 use kinds::Kind;
+use programs::Player;
 use sysex::Answer;
 use sysex::Settings;
 
@@ -19,12 +20,13 @@ const MOST_MOVES: usize = 256;
 // What a list of so many moves is answered, by the lengths of memory and of the buffer for its numbers.
 pub fn list_answer(
     count: usize,
+    player: u32,
     kind: u32,
     settings: Settings,
     memory: usize,
     numbers: usize,
 ) -> Answer
-    ensures { λ r. ⌜ r ≡ listAnswer kind settings count memory numbers ⌝ }
+    ensures { λ r. ⌜ r ≡ listAnswer kind settings player count memory numbers ⌝ }
 {
     if MOST_MOVES < count {
         return sysex::refused(33);
@@ -33,26 +35,29 @@ pub fn list_answer(
         return sysex::refused(34);
     }
     if kinds::is_kind(kind) {
-        return kind_answer(kinds::kind_of(kind), settings, memory);
+        return kind_answer(player, kinds::kind_of(kind), settings, memory);
     }
     sysex::refused(32)
 }
 
-// 30 and 32, behind the test of the kind.
-fn kind_answer(kind: Kind, settings: Settings, memory: usize) -> Answer
-    ensures { λ r. ⌜ r ≡ kindAnswer kind settings memory ⌝ }
+// 30, 31 and 32, behind the test of the kind.
+fn kind_answer(player: u32, kind: Kind, settings: Settings, memory: usize) -> Answer
+    ensures { λ r. ⌜ r ≡ kindAnswer kind settings player memory ⌝ }
 {
     if memory < programs::memory_size(kind) {
         return sysex::refused(30);
     }
-    if settings::are_valid(settings) {
-        return Answer::Taken;
+    if programs::is_player(player) {
+        if settings::are_valid(settings) {
+            return Answer::Taken;
+        }
+        return sysex::refused(32);
     }
-    sysex::refused(32)
+    sysex::refused(31)
 }
 
 // A move into a player's edit buffer.
-pub fn make_move(one: Move, player: u32, kind: Kind, memory: &mut [u8]) -> Answer
+pub fn make_move(one: Move, player: Player, kind: Kind, memory: &mut [u8]) -> Answer
     ensures { λ r. ⌜ ((marks : List ℕ) → outcome r (heldOf (now (memory .exit)) marks) [] ≡ moveDoes kind player one (heldOf (now (memory .entry)) marks)) ⌝ }
 {
     if memory.len() < programs::memory_size(kind) {

@@ -9,22 +9,25 @@ ghost use Rattle.sockets.specs.Promise.{directOf};
 use crate::settings;
 use kinds::Kind;
 use programs::MARKS;
+use programs::Player;
 use sysex::Answer;
 use sysex::Settings;
 
 pub fn whole_message(
     message: &[u8],
+    player: u32,
     kind: u32,
     settings: Settings,
     memory: &mut [u8],
     marks: &mut [u8],
     reply: &mut [u8],
 ) -> Answer
-    ensures { λ r. ⌜ left r (heldOf (now (memory .exit)) (now (marks .exit))) (now (reply .exit)) ≡ wholeOf kind settings (now (message .entry)) (heldOf (now (memory .entry)) (now (marks .entry))) (now (reply .entry)) ⌝ }
+    ensures { λ r. ⌜ left r (heldOf (now (memory .exit)) (now (marks .exit))) (now (reply .exit)) ≡ wholeOf kind settings player (now (message .entry)) (heldOf (now (memory .entry)) (now (marks .entry))) (now (reply .entry)) ⌝ }
 {
     if kinds::is_kind(kind) {
         return handed(
             message,
+            player,
             kinds::kind_of(kind),
             settings,
             memory,
@@ -35,16 +38,17 @@ pub fn whole_message(
     sysex::refused(32)
 }
 
-// 30 and 32, then the message.
+// 30, 31 and 32, then the message.
 fn handed(
     message: &[u8],
+    player: u32,
     kind: Kind,
     settings: Settings,
     memory: &mut [u8],
     marks: &mut [u8],
     reply: &mut [u8],
 ) -> Answer
-    ensures { λ r. ⌜ left r (heldOf (now (memory .exit)) (now (marks .exit))) (now (reply .exit)) ≡ directOf (kindRules kind settings) (Whole (now (message .entry))) (heldOf (now (memory .entry)) (now (marks .entry))) (now (reply .entry)) ⌝ }
+    ensures { λ r. ⌜ left r (heldOf (now (memory .exit)) (now (marks .exit))) (now (reply .exit)) ≡ directOf (kindRules kind settings) (Whole player (now (message .entry))) (heldOf (now (memory .entry)) (now (marks .entry))) (now (reply .entry)) ⌝ }
 {
     if memory.len() < programs::memory_size(kind) {
         return sysex::refused(30);
@@ -55,27 +59,30 @@ fn handed(
     if reply.len() < sysex::longest(kind) {
         return sysex::refused(30);
     }
-    if settings::are_valid(settings) {
-        if settings::are_marks(marks) {
-            return framed(
-                message,
-                settings::PANEL,
-                kind,
-                settings,
-                memory,
-                marks,
-                reply,
-            );
+    if programs::is_player(player) {
+        if settings::are_valid(settings) {
+            if settings::are_marks(marks) {
+                return framed(
+                    message,
+                    programs::player_of(player),
+                    kind,
+                    settings,
+                    memory,
+                    marks,
+                    reply,
+                );
+            }
+            return sysex::refused(32);
         }
         return sysex::refused(32);
     }
-    sysex::refused(32)
+    sysex::refused(31)
 }
 
 // 10 and 11, then what its body asks for.
 fn framed(
     message: &[u8],
-    player: u32,
+    player: Player,
     kind: Kind,
     settings: Settings,
     memory: &mut [u8],

@@ -10,12 +10,9 @@ use programs::PROGRAMS;
 use sysex::Settings;
 
 // Memory of the largest programs, and the longest message with them: no kind asks for more.
-pub const MEMORY: usize = (PROGRAMS + 1) * LARGEST;
+pub const MEMORY: usize = (PROGRAMS + 2) * LARGEST;
 
 pub const LONGEST: usize = 2 * PROGRAMS * LARGEST + 9;
-
-// The player whose messages the panel's are, and whose edit buffer it shows.
-pub const PANEL: u32 = 0;
 
 // What a call of any kind may be lent: memory, and a receive or a reply buffer.
 pub type Memory = [u8; MEMORY];

@@ -1,7 +1,6 @@
 // One byte on one socket.
 ghost use mathlib.Core.Path.{_≡_};
 ghost use mathlib.Core.Bool.{_&&_};
-ghost use Prim.Native.Nat.{_≤_};
 ghost use Rattle.programs.specs.Held.{heldOf};
 ghost use Rattle.framing.specs.Receiver.{soundOf};
 ghost use Rattle.sockets.specs.Box.{took, lent};
@@ -66,20 +65,20 @@ fn take_lent(
     ensures { λ r. ⌜ took (r .receiver) (r .answer) (heldOf (now (memory .exit)) (now (marks .exit))) (now (receive .exit)) (now (reply .exit)) ≡ byteOf (kindRules kind settings) socket byte (lent receiver (heldOf (now (memory .entry)) (now (marks .entry))) (now (receive .entry)) (now (reply .entry))) ⌝ }
 {
     if are_lent(memory.len(), marks.len(), receive.len(), reply.len(), kind) {
-        if 1 < socket {
-            return refused(receiver, 31);
+        if programs::is_player(socket) {
+            return take_ready(
+                receiver,
+                socket,
+                byte,
+                kind,
+                settings,
+                memory,
+                marks,
+                receive,
+                reply,
+            );
         }
-        return take_ready(
-            receiver,
-            socket,
-            byte,
-            kind,
-            settings,
-            memory,
-            marks,
-            receive,
-            reply,
-        );
+        return refused(receiver, 31);
     }
     refused(receiver, 30)
 }
@@ -129,7 +128,7 @@ fn refused(receiver: Receiver, number: u8) -> Took
 // 32, then the byte is taken.
 fn take_ready(
     receiver: Receiver,
-    player: u32,
+    socket: u32,
     byte: u8,
     kind: Kind,
     settings: Settings,
@@ -139,15 +138,14 @@ fn take_ready(
     reply: &mut [u8],
 ) -> Took
     requires { ⌜ HoldsMemory kind (now memory) × HoldsMarks (now marks) × HasRoom kind (now receive) × HasRoom kind (now reply) ⌝ }
-    requires { ⌜ player ≤ 1 ⌝ }
-    ensures { λ r. ⌜ took (r .receiver) (r .answer) (heldOf (now (memory .exit)) (now (marks .exit))) (now (receive .exit)) (now (reply .exit)) ≡ readyDoes kind settings player byte (lent receiver (heldOf (now (memory .entry)) (now (marks .entry))) (now (receive .entry)) (now (reply .entry))) ⌝ }
+    ensures { λ r. ⌜ took (r .receiver) (r .answer) (heldOf (now (memory .exit)) (now (marks .exit))) (now (receive .exit)) (now (reply .exit)) ≡ readyDoes kind settings socket byte (lent receiver (heldOf (now (memory .entry)) (now (marks .entry))) (now (receive .entry)) (now (reply .entry))) ⌝ }
 {
     let limit = settings::limit(kind);
     if is_ready(receiver, limit, settings, marks) {
         let stepped = framing::step(receiver, byte, limit);
         return act(
             stepped,
-            player,
+            socket,
             byte,
             kind,
             settings,
@@ -177,7 +175,7 @@ fn is_ready(receiver: Receiver, limit: u16, settings: Settings, marks: &[u8]) ->
 // What the byte did, carried on to the buffers.
 fn act(
     stepped: Stepped,
-    player: u32,
+    socket: u32,
     byte: u8,
     kind: Kind,
     settings: Settings,
@@ -187,8 +185,8 @@ fn act(
     reply: &mut [u8],
 ) -> Took
     requires { ⌜ HoldsMemory kind (now memory) × HoldsMarks (now marks) × HasRoom kind (now receive) × HasRoom kind (now reply) ⌝ }
-    requires { ⌜ (player ≤ 1) × Within kind (stepped .event) ⌝ }
-    ensures { λ r. ⌜ took (r .receiver) (r .answer) (heldOf (now (memory .exit)) (now (marks .exit))) (now (receive .exit)) (now (reply .exit)) ≡ stepDoes (kindRules kind settings) (socketOf player) byte (lent (stepped .receiver) (heldOf (now (memory .entry)) (now (marks .entry))) (now (receive .entry)) (now (reply .entry))) stepped ⌝ }
+    requires { ⌜ Within kind (stepped .event) ⌝ }
+    ensures { λ r. ⌜ took (r .receiver) (r .answer) (heldOf (now (memory .exit)) (now (marks .exit))) (now (receive .exit)) (now (reply .exit)) ≡ stepDoes (kindRules kind settings) (socketOf socket) byte (lent (stepped .receiver) (heldOf (now (memory .entry)) (now (marks .entry))) (now (receive .entry)) (now (reply .entry))) stepped ⌝ }
 {
     let receiver = stepped.receiver;
     let event = stepped.event;
@@ -219,7 +217,7 @@ fn act(
         Event::SysEx(count) => {
             let answer = carrying::carry_out(
                 &receive[..count as usize],
-                player,
+                programs::player_of(socket),
                 kind,
                 settings,
                 memory,
@@ -229,6 +227,7 @@ fn act(
             Took { receiver, answer }
         }
         Event::Channel(status, first, second) => {
+            let player = programs::player_of(socket);
             let number = channel::channel(status, first, second, player, kind, settings, memory);
             Took {
                 receiver,

@@ -7,6 +7,7 @@ use native.Mathlib.Omega.{arith}
 use Rattle.ground.specs.Calls.{outcome}
 use Rattle.programs.specs.Memory.{partOf, putPart}
 use Rattle.programs.specs.Held.{heldOf}
+use Rattle.programs.proofs.Players.{edit-inside}
 use Rattle.sysex.specs.declared.Answer.the-variants.{Stored}
 use Rattle.carrying.proofs.Parts.{program-inside}
 use borrow.Author.Needs.{needs}
@@ -25,7 +26,7 @@ copy-requires c κs =
     let k = c .before .before .before .before in
     let s = c .before .before .size in
     let inside = program-inside (s .result) (k .args .number - 1) (omega (arith, k .pre .0)) in
-    omega (arith, s .ensures, c .before .edit-place .ensures, k .pre .1)
+    omega (arith, s .ensures, c .before .edit-place .ensures, k .pre .1, edit-inside (k .args .kind) (k .args .player))
 
 returns : tie.Need-returns
 returns c marks =

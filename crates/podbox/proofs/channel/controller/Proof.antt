@@ -10,6 +10,7 @@ use Rattle.ground.specs.Calls.{outcome}
 use Rattle.kinds.specs.Kinds.{sizeOf}
 use Rattle.programs.specs.Memory.{editPlace, putPart}
 use Rattle.programs.specs.Held.{heldOf, Edit, bytesIn, putIn}
+use Rattle.programs.proofs.Players.{edit-inside}
 use Rattle.controls.specs.Answers.{changeNumber}
 use Rattle.controls.specs.Applying.{Changed, applyOf}
 use Rattle.sysex.specs.declared.Answer.{Answer}
@@ -25,7 +26,9 @@ abbrev put : List ℕ → List ℕ → ℕ → ℕ → Changed → Outcome
 put memory marks place count done = outcome (numberAnswer (changeNumber (done .answer))) (heldOf (putPart place (place + count - place) (done .edit) memory) marks) []
 
 part-apply-end : tie.Need-part-apply-end
-part-apply-end c = omega (arith, c .size .ensures, c .before .edit-place .ensures, c .before .before .before .pre)
+part-apply-end c =
+    let a = c .before .before .before .args in
+    omega (arith, c .size .ensures, c .before .edit-place .ensures, c .before .before .before .pre, edit-inside (a .kind) (a .player))
 
 returns : tie.Need-returns
 returns c =
