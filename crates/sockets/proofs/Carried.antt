@@ -22,7 +22,7 @@ sent-append number (a ∷ xs) ys = rw (sent-append number xs ys) (go (eqb (numbe
 
 module _ (rules : Rules) where
   -- carrying out some messages and then others
-  held-append : (held : rules .Held) (fs gs : FinishesOf rules) → heldAfter rules held (fs ++ gs) ≡ heldAfter rules (heldAfter rules held fs) gs
+  pub held-append : (held : rules .Held) (fs gs : FinishesOf rules) → heldAfter rules held (fs ++ gs) ≡ heldAfter rules (heldAfter rules held fs) gs
   held-append held [] gs = refl
   held-append held (f ∷ fs) gs = held-append (rules .carry held f .held) fs gs
 
@@ -43,7 +43,7 @@ module _ (rules : Rules) (start : Socket → Framer) where
     pub each : saids ≡ saidsAlong rules start found before calls
 
   -- one call carries out what it finishes
-  held-one : (c : Call (rules .Given)) (before : CallsOf rules) (held : rules .Held)
+  pub held-one : (c : Call (rules .Given)) (before : CallsOf rules) (held : rules .Held)
       → heldAfter rules held (finishesOf before c) ≡ does rules start held before c .held
   unfolding finishes
   held-one (Byte s b) before held = go (happens (rules .limit) start before s b)

@@ -7,5 +7,6 @@ pub mod Whole
 pub mod Fed
 pub mod Live
 pub mod Calm
+pub mod Unnoticed
 pub mod Cases
 pub mod OneResult

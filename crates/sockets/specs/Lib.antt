@@ -4,5 +4,6 @@ pub mod Box
 pub mod Promise
 pub mod History
 pub mod Demand
+pub mod Players
 pub mod Calm
 pub mod Runs
