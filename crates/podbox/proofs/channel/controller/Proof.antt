@@ -8,6 +8,7 @@ use native.Mathlib.Nat.{add-sub-cancel-left}
 use native.Mathlib.Omega.{arith}
 use Rattle.ground.specs.Calls.{outcome}
 use Rattle.kinds.specs.Kinds.{sizeOf}
+use Rattle.kinds.proofs.AnyKind.{size-bounds}
 use Rattle.programs.specs.Memory.{editPlace, putPart}
 use Rattle.programs.specs.Held.{heldOf, Edit, bytesIn, putIn}
 use Rattle.programs.proofs.Players.{edit-inside}
@@ -24,6 +25,11 @@ use Rattle.podbox.proofs.channel.controller.Tie as tie
 -- the edit buffer from a place on, changed
 abbrev put : List ℕ → List ℕ → ℕ → ℕ → Changed → Outcome
 put memory marks place count done = outcome (numberAnswer (changeNumber (done .answer))) (heldOf (putPart place (place + count - place) (done .edit) memory) marks) []
+
+add-end : tie.Need-add-end
+add-end c =
+    let a = c .before .before .before .args in
+    omega (arith, c .size .ensures, c .before .edit-place .ensures, edit-inside (a .kind) (a .player), size-bounds (a .kind))
 
 part-apply-end : tie.Need-part-apply-end
 part-apply-end c =
@@ -60,7 +66,7 @@ controller-spec =
     (λ c κs. search needs)
     (λ c κs. search needs)
     (λ c. search needs)
-    (λ c. search needs)
+    add-end
     (λ c. search needs)
     (λ c. search needs)
     part-apply-end

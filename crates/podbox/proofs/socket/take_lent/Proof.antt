@@ -5,7 +5,7 @@ use mathlib.Core.Path.{_∙_, sym}
 use lib.Dec.{leb}
 use lib.ListN.{length}
 use borrow.Author.Tests.{le-leb}
-use Rattle.ground.proofs.Tests.{tests, cond-both}
+use Rattle.ground.proofs.Tests.{cond-both}
 use Rattle.programs.specs.Memory.{markCount}
 use Rattle.sysex.specs.Forms.{longest}
 use Rattle.sockets.specs.Promise.{byteOf}
@@ -15,25 +15,20 @@ use borrow.Author.Needs.{needs}
 use Rattle.podbox.proofs.socket.take_lent.Statement.{statement}
 use Rattle.podbox.proofs.socket.take_lent.Tie as tie
 
-returns : tie.Need-returns
-unfolding byteOf
-returns c =
-    let a = c .before .before .before .before .before .before .before .before .args in
-    let lent = lent-enough (a .kind) _ _ _ _ (sym (c .before .before .before .are-lent .ensures) ∙ c .before .before .if1 .taken) in
-    search (tests, lent .0, lent .1, lent .2, lent .3, c .refused .ensures .0, c .refused .ensures .1)
-
 take-ready-requires : tie.Need-take-ready-requires
-take-ready-requires c κs =
-    let a = c .before .before .before .before .before .before .before .before .before .before .before .args in
-    let lent = lent-enough (a .kind) _ _ _ _ (sym (c .before .before .before .before .before .before .are-lent .ensures) ∙ c .before .before .before .before .before .if1 .taken) in
-    (lent, search needs)
+take-ready-requires c κs = lent-enough (c .before .before .before .before .before .before .before .before .before .before .before .before .args .kind) _ _ _ _ (sym (c .before .before .before .before .before .before .before .are-lent .ensures) ∙ c .before .before .before .before .before .before .if1 .taken)
+
+returns : tie.Need-returns
+unfolding byteOf readyDoes
+returns c =
+    let lent = lent-enough (c .before .before .before .before .before .before .before .before .before .before .before .before .before .before .before .before .before .before .before .before .before .args .kind) _ _ _ _ (sym (c .before .before .before .before .before .before .before .before .before .before .before .before .before .before .before .before .are-lent .ensures) ∙ c .before .before .before .before .before .before .before .before .before .before .before .before .before .before .before .if1 .taken) in
+    rw (le-leb _ _ (lent .0), le-leb _ _ (lent .1), le-leb _ _ (lent .2), le-leb _ _ (lent .3), ← c .before .before .before .before .before .before .before .before .before .before .before .before .before .before .is-player .ensures, c .before .before .before .before .before .before .before .before .before .before .before .before .before .if2 .taken) (c .before .before .before .before .before .before .before .before .take-ready .ensures)
 
 returns-2 : tie.Need-returns-2
-unfolding byteOf readyDoes
+unfolding byteOf
 returns-2 c =
-    let a = c .before .before .before .before .before .before .before .before .before .before .before .before .before .before .before .before .before .before .before .before .args in
-    let lent = lent-enough (a .kind) _ _ _ _ (sym (c .before .before .before .before .before .before .before .before .before .before .before .before .before .before .before .are-lent .ensures) ∙ c .before .before .before .before .before .before .before .before .before .before .before .before .before .before .if1 .taken) in
-    rw (le-leb _ _ (lent .0), le-leb _ _ (lent .1), le-leb _ _ (lent .2), le-leb _ _ (lent .3), le-leb _ _ (c .before .before .before .before .before .before .before .before .before .before .before .before .before .if2 .left)) (c .before .before .before .before .before .before .before .before .take-ready .ensures)
+    let lent = lent-enough (c .before .before .before .before .before .before .before .before .before .args .kind) _ _ _ _ (sym (c .before .before .before .before .are-lent .ensures) ∙ c .before .before .before .if1 .taken) in
+    rw (le-leb _ _ (lent .0), le-leb _ _ (lent .1), le-leb _ _ (lent .2), le-leb _ _ (lent .3), ← c .before .before .is-player .ensures, c .before .if2 .left, c .refused .ensures .0, c .refused .ensures .1)
 
 returns-3 : tie.Need-returns-3
 unfolding byteOf areLent
@@ -49,12 +44,13 @@ take-lent-spec =
     (tie.spec
     (λ c κs. search needs)
     (λ c κs. search needs)
-    returns
     take-ready-requires
     (λ c. search needs)
     (λ c. search needs)
     (λ c. search needs)
     (λ c. search needs)
+    returns
+    (λ c κs. search needs)
     returns-2
     (λ c κs. search needs)
     returns-3)

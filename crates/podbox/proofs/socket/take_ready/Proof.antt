@@ -18,7 +18,7 @@ act-requires c κs =
     let ready = rw limit at (c .before .before .before .before .before .before .is-ready .ensures) in
     let sound = both (soundOf _ (a .receiver)) _ (sym ready ∙ c .before .before .before .before .before .if1 .taken) .0 in
     let step = rw limit at (c .before .before .before .before .step .ensures) in
-    (search needs, (search needs, rw step (step-within _ _ _ sound)))
+    (search needs, rw step (step-within _ _ _ sound))
 
 returns : tie.Need-returns
 unfolding readyDoes stepDoes
