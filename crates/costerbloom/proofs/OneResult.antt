@@ -17,22 +17,22 @@ pub costerbloom-take-one : (kindNumber : ℕ) (settings : Settings) (socket : �
     → (r ≡ s) × (a ≡ b) × (m ≡ n) × (x ≡ y) × (o ≡ p)
 costerbloom-take-one kindNumber settings socket receiver byte held receive reply r s a b m n x y o p = took-one
 
-pub costerbloom-whole-one : (kindNumber : ℕ) (settings : Settings) (message : List ℕ) (held : Held) (reply : List ℕ) (a b : ℕ) (m n : Held) (x y : List ℕ)
-    → left a m x ≡ wholeNumbers kindNumber settings message held reply → left b n y ≡ wholeNumbers kindNumber settings message held reply → (a ≡ b) × (m ≡ n) × (x ≡ y)
-costerbloom-whole-one kindNumber settings message held reply a b m n x y = left-one
+pub costerbloom-whole-one : (kindNumber : ℕ) (settings : Settings) (playerNumber : ℕ) (message : List ℕ) (held : Held) (reply : List ℕ) (a b : ℕ) (m n : Held) (x y : List ℕ)
+    → left a m x ≡ wholeNumbers kindNumber settings playerNumber message held reply → left b n y ≡ wholeNumbers kindNumber settings playerNumber message held reply → (a ≡ b) × (m ≡ n) × (x ≡ y)
+costerbloom-whole-one kindNumber settings playerNumber message held reply a b m n x y = left-one
 
-pub costerbloom-moves-one : (kindNumber : ℕ) (settings : Settings) (moves : List Move) (memory numbers : List ℕ) (a b : ℕ) (m n x y : List ℕ)
-    → ((marks : List ℕ) → left a (heldOf m marks) x ≡ movesNumbers kindNumber settings moves (heldOf memory marks) numbers)
-    → ((marks : List ℕ) → left b (heldOf n marks) y ≡ movesNumbers kindNumber settings moves (heldOf memory marks) numbers)
+pub costerbloom-moves-one : (kindNumber : ℕ) (settings : Settings) (playerNumber : ℕ) (moves : List Move) (memory numbers : List ℕ) (a b : ℕ) (m n x y : List ℕ)
+    → ((marks : List ℕ) → left a (heldOf m marks) x ≡ movesNumbers kindNumber settings playerNumber moves (heldOf memory marks) numbers)
+    → ((marks : List ℕ) → left b (heldOf n marks) y ≡ movesNumbers kindNumber settings playerNumber moves (heldOf memory marks) numbers)
     → (a ≡ b) × (m ≡ n) × (x ≡ y)
-costerbloom-moves-one kindNumber settings moves memory numbers a b m n x y p q =
+costerbloom-moves-one kindNumber settings playerNumber moves memory numbers a b m n x y p q =
     let e = left-one (p []) (q []) in (e .0, ap (λ (held : Held). held .memory) (e .1), e .2)
 
 pub costerbloom-scale-one : (kindNumber controller value : ℕ) (r s : ℕ) → r ≡ scaleNumber kindNumber controller value → s ≡ scaleNumber kindNumber controller value → r ≡ s
 costerbloom-scale-one kindNumber controller value r s = one
 
-pub costerbloom-back-one : (kindNumber controller : ℕ) (memory : List ℕ) (r s : ℕ) → r ≡ backNumber kindNumber controller memory → s ≡ backNumber kindNumber controller memory → r ≡ s
-costerbloom-back-one kindNumber controller memory r s = one
+pub costerbloom-back-one : (kindNumber playerNumber controller : ℕ) (memory : List ℕ) (r s : ℕ) → r ≡ backNumber kindNumber playerNumber controller memory → s ≡ backNumber kindNumber playerNumber controller memory → r ≡ s
+costerbloom-back-one kindNumber playerNumber controller memory r s = one
 
 pub costerbloom-amp-one : (kindNumber model : ℕ) (r s : ℕ) → r ≡ ampNumber kindNumber model → s ≡ ampNumber kindNumber model → r ≡ s
 costerbloom-amp-one kindNumber model r s = one

@@ -7,7 +7,7 @@ use Rattle.ground.specs.Tests.{tested}
 use Rattle.ground.specs.Calls.{Left, left}
 use Rattle.kinds.specs.declared.Kind.{Kind}
 use Rattle.kinds.specs.Kinds.{kindOf, sizeOf, isKnownModel}
-use Rattle.programs.specs.Memory.{editPlace, partOf}
+use Rattle.programs.specs.Memory.{playerOf, editPlace, partOf}
 use Rattle.programs.specs.Held.{Held}
 use Rattle.controls.specs.declared.Reading.{Reading}
 use Rattle.controls.specs.declared.Reading.the-variants as reading
@@ -21,7 +21,7 @@ use Rattle.sysex.specs.declared.Answer.{Answer}
 use Rattle.sysex.specs.Numbers.{answerNumber, answerLength}
 use Rattle.carrying.specs.Carrying.{memoryTest}
 use Rattle.podbox.specs.declared.Move.{Move}
-use Rattle.podbox.specs.Box.{kindTest, panel, takeOf, wholeOf, movesOf}
+use Rattle.podbox.specs.Box.{kindTest, playerTest, takeOf, wholeOf, movesOf}
 
 -- the settings, each a number of its own
 abbrev pub settingsOf : ℕ → ℕ → ℕ → ℕ → ℕ → ℕ → Settings
@@ -47,11 +47,11 @@ takeNumbers kindNumber settings socket receiver byte held receive reply = tookNu
 abbrev pub leftNumbers : Left Held Answer → Left Held ℕ
 leftNumbers l = left (packed (l .answer)) (l .held) (l .reply)
 
-unfoldable pub wholeNumbers : ℕ → Settings → List ℕ → Held → List ℕ → Left Held ℕ
-wholeNumbers kindNumber settings message held reply = leftNumbers (wholeOf kindNumber settings message held reply)
+unfoldable pub wholeNumbers : ℕ → Settings → ℕ → List ℕ → Held → List ℕ → Left Held ℕ
+wholeNumbers kindNumber settings playerNumber message held reply = leftNumbers (wholeOf kindNumber settings playerNumber message held reply)
 
-unfoldable pub movesNumbers : ℕ → Settings → List Move → Held → List ℕ → Left Held ℕ
-movesNumbers kindNumber settings moves held numbers = leftNumbers (movesOf kindNumber settings moves held numbers)
+unfoldable pub movesNumbers : ℕ → Settings → ℕ → List Move → Held → List ℕ → Left Held ℕ
+movesNumbers kindNumber settings playerNumber moves held numbers = leftNumbers (movesOf kindNumber settings playerNumber moves held numbers)
 
 -- "Scaling may be asked directly": 32 for a number that is no kind, then what the kind's controllers say
 unfoldable pub scaleCall : ℕ → ℕ → ℕ → Reading
@@ -60,17 +60,18 @@ scaleCall kindNumber controller value = tested (kindTest kindNumber ∷ []) read
 unfoldable pub scaleNumber : ℕ → ℕ → ℕ → ℕ
 scaleNumber kindNumber controller value = readingNumber (scaleCall kindNumber controller value)
 
--- "Back, from the edit buffer", the panel's, where memory is lent: 30 for a short one
-unfoldable pub memoryBack : Kind → ℕ → List ℕ → Reading
-memoryBack kind controller memory =
-    tested (memoryTest kind (length memory) ∷ []) reading.Refused (backOf kind controller (partOf (editPlace kind panel) (sizeOf kind) memory))
+-- "Back, from the edit buffer", the named player's, where memory is lent: 30 for a short one, then 31
+unfoldable pub memoryBack : Kind → ℕ → ℕ → List ℕ → Reading
+memoryBack kind playerNumber controller memory =
+    tested (memoryTest kind (length memory) ∷ playerTest playerNumber ∷ []) reading.Refused
+    (backOf kind controller (partOf (editPlace kind (playerOf playerNumber)) (sizeOf kind) memory))
 
 -- and before it 32 for a number that is no kind
-unfoldable pub backCall : ℕ → ℕ → List ℕ → Reading
-backCall kindNumber controller memory = tested (kindTest kindNumber ∷ []) reading.Refused (memoryBack (kindOf kindNumber) controller memory)
+unfoldable pub backCall : ℕ → ℕ → ℕ → List ℕ → Reading
+backCall kindNumber playerNumber controller memory = tested (kindTest kindNumber ∷ []) reading.Refused (memoryBack (kindOf kindNumber) playerNumber controller memory)
 
-unfoldable pub backNumber : ℕ → ℕ → List ℕ → ℕ
-backNumber kindNumber controller memory = readingNumber (backCall kindNumber controller memory)
+unfoldable pub backNumber : ℕ → ℕ → ℕ → List ℕ → ℕ
+backNumber kindNumber playerNumber controller memory = readingNumber (backCall kindNumber playerNumber controller memory)
 
 -- "from kind and stored byte the box says whether an amp model is known": 32 for a number that is no kind, then 1 where it is known, 0 where not
 unfoldable pub ampCall : ℕ → ℕ → Reading

@@ -96,10 +96,11 @@ fn take(
     }
 }
 
-// A whole message from the panel.
+// A whole message from the panel, of a player.
 #[no_mangle]
 pub extern "C" fn costerbloom_whole(
     message: &[u8],
+    player: u32,
     kind: u32,
     channel: u8,
     omni: u8,
@@ -111,10 +112,10 @@ pub extern "C" fn costerbloom_whole(
     marks: &mut [u8],
     reply: &mut [u8],
 ) -> u64
-    ensures { λ r. ⌜ left r (heldOf (now (memory .exit)) (now (marks .exit))) (now (reply .exit)) ≡ wholeNumbers kind (settingsOf channel omni revision0 revision1 revision2 revision3) (now (message .entry)) (heldOf (now (memory .entry)) (now (marks .entry))) (now (reply .entry)) ⌝ }
+    ensures { λ r. ⌜ left r (heldOf (now (memory .exit)) (now (marks .exit))) (now (reply .exit)) ≡ wholeNumbers kind (settingsOf channel omni revision0 revision1 revision2 revision3) player (now (message .entry)) (heldOf (now (memory .entry)) (now (marks .entry))) (now (reply .entry)) ⌝ }
 {
     let settings = numbers::settings(channel, omni, revision0, revision1, revision2, revision3);
-    let answer = podbox::whole_message(message, kind, settings, memory, marks, reply);
+    let answer = podbox::whole_message(message, player, kind, settings, memory, marks, reply);
     numbers::packed(answer)
 }
 
@@ -137,34 +138,37 @@ fn scale(controller: u32, value: u32, kind: u32) -> Reading
     Reading::Refused(32)
 }
 
-// The value that the edit buffer shows for a controller.
+// The value that a player's edit buffer shows for a controller.
 #[no_mangle]
-pub extern "C" fn costerbloom_back(controller: u32, kind: u32, memory: &[u8]) -> u32
-    ensures { λ r. ⌜ r ≡ backNumber kind controller (now (memory .entry)) ⌝ }
+pub extern "C" fn costerbloom_back(controller: u32, player: u32, kind: u32, memory: &[u8]) -> u32
+    ensures { λ r. ⌜ r ≡ backNumber kind player controller (now (memory .entry)) ⌝ }
 {
-    let reading = back(controller, kind, memory);
+    let reading = back(controller, player, kind, memory);
     numbers::reading_number(reading)
 }
 
 // The same, told apart by an enum.
-fn back(controller: u32, kind: u32, memory: &[u8]) -> Reading
-    ensures { λ r. ⌜ r ≡ backCall kind controller (now (memory .entry)) ⌝ }
+fn back(controller: u32, player: u32, kind: u32, memory: &[u8]) -> Reading
+    ensures { λ r. ⌜ r ≡ backCall kind player controller (now (memory .entry)) ⌝ }
 {
     if kinds::is_kind(kind) {
-        return shown(controller, kinds::kind_of(kind), memory);
+        return shown(controller, player, kinds::kind_of(kind), memory);
     }
     Reading::Refused(32)
 }
 
-fn shown(controller: u32, kind: Kind, memory: &[u8]) -> Reading
-    ensures { λ r. ⌜ r ≡ memoryBack kind controller (now (memory .entry)) ⌝ }
+fn shown(controller: u32, player: u32, kind: Kind, memory: &[u8]) -> Reading
+    ensures { λ r. ⌜ r ≡ memoryBack kind player controller (now (memory .entry)) ⌝ }
 {
     if memory.len() < programs::memory_size(kind) {
         return Reading::Refused(30);
     }
-    let place = programs::edit_place(kind, podbox::PANEL);
-    let end = place + kinds::size(kind) as usize;
-    controls::show_back(controller, kind, &memory[place..end])
+    if programs::is_player(player) {
+        let place = programs::edit_place(kind, programs::player_of(player));
+        let end = place + kinds::size(kind) as usize;
+        return controls::show_back(controller, kind, &memory[place..end]);
+    }
+    Reading::Refused(31)
 }
 
 // Whether an amp model is known: 1 where it is, 0 where not.

@@ -1,4 +1,4 @@
-// Many moves in one go.
+// Many moves of a player in one go.
 ghost use mathlib.Core.Path.{_≡_};
 ghost use mathlib.Core.List.{List};
 ghost use Prim.Native.Nat.{ℕ, _<_};
@@ -20,6 +20,7 @@ struct Allowed {
 #[no_mangle]
 pub extern "C" fn costerbloom_moves(
     moves: &[Move],
+    player: u32,
     kind: u32,
     channel: u8,
     omni: u8,
@@ -30,10 +31,11 @@ pub extern "C" fn costerbloom_moves(
     memory: &mut [u8],
     numbers: &mut [u8],
 ) -> u64
-    ensures { λ r. ⌜ ((marks : List ℕ) → left r (heldOf (now (memory .exit)) marks) (now (numbers .exit)) ≡ movesNumbers kind (settingsOf channel omni revision0 revision1 revision2 revision3) (now (moves .entry)) (heldOf (now (memory .entry)) marks) (now (numbers .entry))) ⌝ }
+    ensures { λ r. ⌜ ((marks : List ℕ) → left r (heldOf (now (memory .exit)) marks) (now (numbers .exit)) ≡ movesNumbers kind (settingsOf channel omni revision0 revision1 revision2 revision3) player (now (moves .entry)) (heldOf (now (memory .entry)) marks) (now (numbers .entry))) ⌝ }
 {
     let allowed = allow(
         moves.len(),
+        player,
         kind,
         channel,
         omni,
@@ -47,7 +49,7 @@ pub extern "C" fn costerbloom_moves(
     let count = allowed.count;
     let mut i = 0;
     while i < count {
-        make(moves[i], i, kind, memory, numbers);
+        make(moves[i], i, player, kind, memory, numbers);
         i = i + 1;
     }
     allowed.answer
@@ -56,6 +58,7 @@ pub extern "C" fn costerbloom_moves(
 // All of them, or none where the list is refused.
 fn allow(
     count: usize,
+    player: u32,
     kind: u32,
     channel: u8,
     omni: u8,
@@ -66,10 +69,10 @@ fn allow(
     memory: usize,
     numbers: usize,
 ) -> Allowed
-    ensures { λ r. ⌜ r ≡ allowedOf kind (settingsOf channel omni revision0 revision1 revision2 revision3) count memory numbers ⌝ }
+    ensures { λ r. ⌜ r ≡ allowedOf kind (settingsOf channel omni revision0 revision1 revision2 revision3) player count memory numbers ⌝ }
 {
     let settings = numbers::settings(channel, omni, revision0, revision1, revision2, revision3);
-    let listed = podbox::list_answer(count, kind, settings, memory, numbers);
+    let listed = podbox::list_answer(count, player, kind, settings, memory, numbers);
     let answer = numbers::packed(listed);
     if answer == 0 {
         return Allowed { count, answer };
@@ -78,10 +81,15 @@ fn allow(
 }
 
 // One move, and its number noted at its place of the list.
-fn make(one: Move, place: usize, kind: u32, memory: &mut [u8], numbers: &mut [u8])
+fn make(one: Move, place: usize, player: u32, kind: u32, memory: &mut [u8], numbers: &mut [u8])
     requires { ⌜ place < length (now numbers) ⌝ }
-    ensures { λ _. ⌜ buffers (now (memory .exit)) (now (numbers .exit)) ≡ makeOf kind place one (buffers (now (memory .entry)) (now (numbers .entry))) ⌝ }
+    ensures { λ _. ⌜ buffers (now (memory .exit)) (now (numbers .exit)) ≡ makeOf kind player place one (buffers (now (memory .entry)) (now (numbers .entry))) ⌝ }
 {
-    let done = podbox::make_move(one, podbox::PANEL, kinds::kind_of(kind), memory);
+    let done = podbox::make_move(
+        one,
+        programs::player_of(player),
+        kinds::kind_of(kind),
+        memory,
+    );
     numbers[place] = sysex::answer_number(done);
 }

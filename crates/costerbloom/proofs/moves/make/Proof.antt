@@ -13,15 +13,15 @@ use Rattle.costerbloom.proofs.moves.make.Tie as tie
 returns : tie.Need-returns
 unfolding makeOf
 returns c =
-    let k = c .before .before .before in
-    let a = k .before .before .before .before .before .args in
-    rw (← k .before .before .kind-of .ensures, c .answer-number .ensures)
-    (ap (λ (o : Outcome). buffers (o .held .memory) (set (now (a .numbers)) (a .place) (answerNumber (o .answer)))) (k .make-move .ensures []))
+    let a = c .before .before .before .before .before .before .before .before .before .args in
+    rw (← c .before .before .before .before .before .kind-of .ensures, ← c .before .before .before .before .before .before .player-of .ensures, c .answer-number .ensures)
+    (ap (λ (o : Outcome). buffers (o .held .memory) (set (now (a .numbers)) (a .place) (answerNumber (o .answer)))) (c .before .before .before .make-move .ensures []))
 
 pub make-spec : {M : Type 1} → statement M
 make-spec =
     tie.close
     (tie.spec
+    (λ c κs. search needs)
     (λ c κs. search needs)
     (λ c κs. search needs)
     (λ c κs. search needs)
