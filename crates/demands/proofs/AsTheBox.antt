@@ -27,18 +27,18 @@ take-as-box kindNumber settings socket receiver byte held receive reply r n m x 
       rw (ap (λ (l : Took Held ℕ). l .answer) e) (take-told kindNumber settings socket receiver byte held receive reply),
     )
 
-pub whole-as-box : (kindNumber : ℕ) (settings : Settings) (message : List ℕ) (held : Held) (reply : List ℕ) (n : ℕ) (m : Held) (o : List ℕ)
-    → left n m o ≡ wholeNumbers kindNumber settings message held reply
-    → (answer : Answer) × (left answer m o ≡ wholeOf kindNumber settings message held reply) × Told answer n
+pub whole-as-box : (kindNumber : ℕ) (settings : Settings) (playerNumber : ℕ) (message : List ℕ) (held : Held) (reply : List ℕ) (n : ℕ) (m : Held) (o : List ℕ)
+    → left n m o ≡ wholeNumbers kindNumber settings playerNumber message held reply
+    → (answer : Answer) × (left answer m o ≡ wholeOf kindNumber settings playerNumber message held reply) × Told answer n
 unfolding wholeNumbers
-whole-as-box kindNumber settings message held reply n m o e =
-    let answer = wholeOf kindNumber settings message held reply .answer in
-    (answer, ap (λ (l : Left Held ℕ). left answer (l .held) (l .reply)) e, rw (ap (λ (l : Left Held ℕ). l .answer) e) (whole-told kindNumber settings message held reply))
+whole-as-box kindNumber settings playerNumber message held reply n m o e =
+    let answer = wholeOf kindNumber settings playerNumber message held reply .answer in
+    (answer, ap (λ (l : Left Held ℕ). left answer (l .held) (l .reply)) e, rw (ap (λ (l : Left Held ℕ). l .answer) e) (whole-told kindNumber settings playerNumber message held reply))
 
-pub moves-as-box : (kindNumber : ℕ) (settings : Settings) (moves : List Move) (held : Held) (numbers : List ℕ) (n : ℕ) (m : Held) (o : List ℕ)
-    → left n m o ≡ movesNumbers kindNumber settings moves held numbers
-    → (answer : Answer) × (left answer m o ≡ movesOf kindNumber settings moves held numbers) × (n ≡ answerNumber answer)
+pub moves-as-box : (kindNumber : ℕ) (settings : Settings) (playerNumber : ℕ) (moves : List Move) (held : Held) (numbers : List ℕ) (n : ℕ) (m : Held) (o : List ℕ)
+    → left n m o ≡ movesNumbers kindNumber settings playerNumber moves held numbers
+    → (answer : Answer) × (left answer m o ≡ movesOf kindNumber settings playerNumber moves held numbers) × (n ≡ answerNumber answer)
 unfolding movesNumbers
-moves-as-box kindNumber settings moves held numbers n m o e =
-    let answer = movesOf kindNumber settings moves held numbers .answer in
-    (answer, ap (λ (l : Left Held ℕ). left answer (l .held) (l .reply)) e, ap (λ (l : Left Held ℕ). l .answer) e ∙ moves-told kindNumber settings moves held numbers .0)
+moves-as-box kindNumber settings playerNumber moves held numbers n m o e =
+    let answer = movesOf kindNumber settings playerNumber moves held numbers .answer in
+    (answer, ap (λ (l : Left Held ℕ). left answer (l .held) (l .reply)) e, ap (λ (l : Left Held ℕ). l .answer) e ∙ moves-told kindNumber settings playerNumber moves held numbers .0)

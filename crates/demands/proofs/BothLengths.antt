@@ -16,6 +16,7 @@ use Rattle.ground.proofs.InOrder.{Names, first-named, tested-cases}
 use Rattle.kinds.specs.declared.Kind.{Kind}
 use Rattle.kinds.specs.Kinds.{sizeOf, hasSpare, headerOf, kindOf}
 use Rattle.kinds.proofs.AnyKind.{size-bounds}
+use Rattle.programs.specs.declared.Player.{Player}
 use Rattle.programs.specs.Memory.{memorySize, markCount, partOf, putPart}
 use Rattle.programs.specs.Spares.{withoutSpares, allSet}
 use Rattle.programs.specs.Held.{Held, Target, placeFor, countFor, bytesIn, slotFor, slotsFor, sentSize, received, storeIn, goesLong, bytesOut}
@@ -38,7 +39,7 @@ use Rattle.carrying.proofs.Numbered.{done-not-refused}
 use Rattle.carrying.proofs.Understands.{begun, halves-sent, data-behind, meant}
 use Rattle.podbox.specs.Messages.{isController, channelTests, channelDoes, messageDoes}
 use Rattle.podbox.specs.Whole.{handedDoes}
-use Rattle.podbox.specs.Box.{panel, Delivered, FromPanel, FromList, boxRules}
+use Rattle.podbox.specs.Box.{socketPlayer, Delivered, FromPanel, FromList, boxRules}
 use Rattle.demands.specs.Marks.{broughtFor, DumpLeaves, WrongLength, MovesMarks, MessageMoves, FinishMoves}
 use Rattle.demands.proofs.Forms.{store-does, send-does, named-inside}
 use Rattle.demands.proofs.Accepts.{no-identity}
@@ -54,7 +55,7 @@ put-at place count i bytes marks h k =
     ∙ getD-append-add (take place marks) (bytes ++ drop count (drop place marks)) i 0
     ∙ List·getD-append bytes (drop count (drop place marks)) 0 i k
 
-module _ (kind : Kind) (player : ℕ) (held : Held) (m : memorySize kind ≤ length (held .memory)) (k : markCount ≤ length (held .marks))
+module _ (kind : Kind) (player : Player) (held : Held) (m : memorySize kind ≤ length (held .memory)) (k : markCount ≤ length (held .marks))
     (t : Target) (long : Bool) (bytes body : List ℕ) (d : IsDump kind t long bytes body) where
   abbrev slot : ℕ
   slot = slotFor player t
@@ -112,7 +113,7 @@ all-set-at marks = (each marks, all marks)
     all [] s = refl
     all (m ∷ marks) s = rw (eq-eqb m 1 (s 0 (omega arith))) (all marks (λ i h. s (suc i) (omega arith)))
 
-module _ (kind : Kind) (player : ℕ) (held : Held) (t : Target) (there : There t) where
+module _ (kind : Kind) (player : Player) (held : Held) (t : Target) (there : There t) where
   pub goes-long : hasSpare kind ≡ true → markCount ≤ length (held .marks)
       → (goesLong kind player t held ≡ true) ↔ ((i : ℕ) → i < slotsFor t → getD (held .marks) (slotFor player t + i) 0 ≡ 1)
   goes-long has k =
@@ -224,14 +225,14 @@ module _ (kind : Kind) (settings : Settings) (body : List ℕ) where
       let rest : FirstToFail (numbered (furtherTests kind settings body)) 13 = rw other (later _ (w .known) (here _ wrong)) in
       later _ ours rest
 
-  pub wrong-length : (player : ℕ) (held : Held) → (bodyDoes kind settings player body held .answer ≡ refused 13) ↔ WrongLength kind body
+  pub wrong-length : (player : Player) (held : Held) → (bodyDoes kind settings player body held .answer ≡ refused 13) ↔ WrongLength kind body
   unfolding judgeOf
   wrong-length player held =
       let order = in-order (numbered (testsOf kind settings body)) _ _ 13 (done-not-refused kind settings player body held 13 (bodyOrder body) (passed-done body)) (checks-tested kind settings player held (testsOf kind settings body) body) in
       ((λ e. first-wrong (order .0 e)), (λ w. order .1 (wrong-first w)))
 
 -- Nothing but a dump moves a mark, whoever sends it.
-module _ (kind : Kind) (settings : Settings) (player : ℕ) (held : Held) where
+module _ (kind : Kind) (settings : Settings) (player : Player) (held : Held) where
   abbrev Stays : Outcome → Type 0
   Stays o = o .held .marks ≡ held .marks
 
@@ -261,6 +262,6 @@ module _ (kind : Kind) (settings : Settings) (player : ℕ) (held : Held) where
 
 pub nothing-else : (kindNumber : ℕ) (settings : Settings) (held : Held) (f : Finish Delivered)
     → (boxRules kindNumber settings .carry held f .held .marks ≡ held .marks) ⊎ FinishMoves (kindOf kindNumber) f
-nothing-else kindNumber settings held (FromSocket s m) = message-moves (kindOf kindNumber) settings (socketNumber s) held m
-nothing-else kindNumber settings held (FromDirect (FromPanel message)) = handed-moves (kindOf kindNumber) settings panel held message
-nothing-else kindNumber settings held (FromDirect (FromList m)) = message-moves (kindOf kindNumber) settings panel held m
+nothing-else kindNumber settings held (FromSocket s m) = message-moves (kindOf kindNumber) settings (socketPlayer s) held m
+nothing-else kindNumber settings held (FromDirect (FromPanel s message)) = handed-moves (kindOf kindNumber) settings (socketPlayer s) held message
+nothing-else kindNumber settings held (FromDirect (FromList s m)) = message-moves (kindOf kindNumber) settings (socketPlayer s) held m

@@ -11,6 +11,7 @@ use borrow.Author.Tests.{le-leb, lt-ltb, lt-leb, ne-eqb, eqb-true}
 use Rattle.ground.specs.Calls.{outcome}
 use Rattle.kinds.specs.declared.Kind.the-variants.{Pod}
 use Rattle.kinds.specs.Kinds.{isKind, kindOf, numberOf, sizeOf}
+use Rattle.programs.specs.declared.Player.{Player}
 use Rattle.programs.specs.Memory.{memorySize, markCount, editPlace}
 use Rattle.programs.specs.Held.{Held, heldOf, Edit, bytesIn}
 use Rattle.programs.proofs.Parts.{put-same, edit-length}
@@ -37,7 +38,7 @@ use Rattle.demands.proofs.Passed.{take-passed}
 
 -- on any channel that is heard
 module _ (settings : Settings) (status : ℕ) (heard : isHeard settings status ≡ true) (is-controller : isController status ≡ true)
-    (player : ℕ) (held : Held) (m : memorySize Pod ≤ length (held .memory))
+    (player : Player) (held : Held) (m : memorySize Pod ≤ length (held .memory))
     (f : Flanger (selector player held)) (controller value : ℕ) (rotary : RotaryMove controller) (h : value ≤ 127) where
   -- the message, however it was finished
   pub rotary-refused : messageDoes Pod settings player held (Channel status controller value) ≡ refusing held 19

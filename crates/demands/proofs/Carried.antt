@@ -11,6 +11,7 @@ use Rattle.halves.specs.HalfBytes.{join}
 use Rattle.kinds.specs.declared.Kind.{Kind}
 use Rattle.kinds.specs.Kinds.{sizeOf}
 use Rattle.kinds.proofs.AnyKind.{size-bounds}
+use Rattle.programs.specs.declared.Player.{Player}
 use Rattle.programs.specs.Memory.{programCount, memorySize, putPart}
 use Rattle.programs.specs.Held.{Held, heldOf, One, Edit, placeFor, countFor, bytesIn, received, bytesOut}
 use Rattle.programs.proofs.Parts.{put-length, put-same, edit-length}
@@ -43,7 +44,7 @@ pub data Tame (kind : Kind) (held : Held) : Outcome → Type 0 where
   applies : (after : Held) → length (after .memory) ≡ length (held .memory) → after .marks ≡ held .marks → Tame kind held (outcome Applied after [])
   refuses : (number : ℕ) → 10 ≤ number → number ≤ 22 → Tame kind held (outcome (refused number) held [])
 
-module _ (kind : Kind) (settings : Settings) (player : ℕ) (held : Held) (m : memorySize kind ≤ length (held .memory)) where
+module _ (kind : Kind) (settings : Settings) (player : Player) (held : Held) (m : memorySize kind ≤ length (held .memory)) where
   order-tame : (body : List ℕ) (o : Order) → Meant kind settings body o → Tame kind held (orderDoes kind settings player o body held)
   unfolding orderDoes
   order-tame body o (identity channel i) = sends (identityReply kind settings channel) (omega (arith, identity-length kind settings channel, size-bounds kind .0))

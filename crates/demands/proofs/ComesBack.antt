@@ -8,6 +8,7 @@ use lib.ListN.{length, replicate, length-replicate}
 use Rattle.kinds.specs.declared.Kind.{Kind}
 use Rattle.kinds.specs.Kinds.{sizeOf, hasSpare}
 use Rattle.kinds.proofs.AnyKind.{size-bounds}
+use Rattle.programs.specs.declared.Player.{Player}
 use Rattle.programs.specs.Memory.{memorySize, markCount}
 use Rattle.programs.specs.Spares.{withoutSpares, allSet}
 use Rattle.programs.specs.Held.{Held, Target, One, Edit, All, placeFor, countFor, bytesIn, slotFor, slotsFor, sentFor, received, storeIn, goesLong, bytesOut}
@@ -38,7 +39,7 @@ out-again : (kind : Kind) (t : Target) (long : Bool) (bytes : List ℕ) → leng
 out-again kind t true bytes e = refl
 out-again kind t false bytes e = without-with (sizeOf kind) (size-bounds kind .0) (slotsFor t) bytes (e ∙ sent-slots kind false t)
 
-module _ (kind : Kind) (settings : Settings) (player : ℕ) (held : Held) (m : memorySize kind ≤ length (held .memory)) (k : markCount ≤ length (held .marks))
+module _ (kind : Kind) (settings : Settings) (player : Player) (held : Held) (m : memorySize kind ≤ length (held .memory)) (k : markCount ≤ length (held .marks))
     (t : Target) (long : Bool) (bytes body : List ℕ) (d : IsDump kind t long bytes body) where
   abbrev after : Held
   after = storeIn kind player t long bytes held

@@ -10,6 +10,7 @@ use Rattle.ground.proofs.Tests.{by}
 use Rattle.ground.proofs.InOrder.{tested-cases}
 use Rattle.kinds.specs.declared.Kind.{Kind}
 use Rattle.kinds.specs.Kinds.{sizeOf}
+use Rattle.programs.specs.declared.Player.{Player}
 use Rattle.programs.specs.Memory.{memorySize, programPlace, editPlace}
 use Rattle.programs.specs.Held.{Held, Edit, bytesIn, putIn}
 use Rattle.programs.proofs.Parts.{part-put, part-before, put-before, put-behind, put-length, edit-length}
@@ -24,10 +25,10 @@ use Rattle.carrying.proofs.Parts.{program-inside}
 use Rattle.podbox.specs.Messages.{isController, channelTests, changeAnswer, controllerDoes, channelDoes, messageDoes}
 use Rattle.demands.specs.EditAlone.{EditAlone, Moved}
 
-pub alone-same : (kind : Kind) (player : ℕ) (held : Held) → EditAlone kind player held held
+pub alone-same : (kind : Kind) (player : Player) (held : Held) → EditAlone kind player held held
 alone-same kind player held = record { programs-stay = λ _ _. refl; else-stays = λ _ _. refl; length-stays = refl; marks-stay = refl }
 
-pub alone-more : (kind : Kind) (player : ℕ) (a b c : Held) → EditAlone kind player a b → EditAlone kind player b c → EditAlone kind player a c
+pub alone-more : (kind : Kind) (player : Player) (a b c : Held) → EditAlone kind player a b → EditAlone kind player b c → EditAlone kind player a c
 alone-more kind player a b c e f = record {
   programs-stay = λ p h. f .programs-stay p h ∙ e .programs-stay p h;
   else-stays = λ k h. f .else-stays k h ∙ e .else-stays k h;
@@ -35,7 +36,7 @@ alone-more kind player a b c e f = record {
   marks-stay = f .marks-stay ∙ e .marks-stay;
 }
 
-module _ (kind : Kind) (player : ℕ) (held : Held) (m : memorySize kind ≤ length (held .memory)) where
+module _ (kind : Kind) (player : Player) (held : Held) (m : memorySize kind ≤ length (held .memory)) where
   module _ (bytes : List ℕ) (e : length bytes ≡ sizeOf kind) where
     pub edit-put : bytesIn kind player Edit (putIn kind player Edit bytes held) ≡ bytes
     edit-put = part-put (editPlace kind player) (sizeOf kind) bytes (held .memory) (omega arith) e

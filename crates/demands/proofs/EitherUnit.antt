@@ -15,6 +15,7 @@ use Rattle.ground.proofs.Tests.{both, one-of, by}
 use Rattle.kinds.specs.declared.Kind.{Kind}
 use Rattle.kinds.specs.declared.Kind.the-variants.{Pod, PodPro}
 use Rattle.kinds.specs.Kinds.{isKind, kindOf, numberOf, sizeOf, hasSpare, deviceOf, takesProgramChange, highestModel}
+use Rattle.programs.specs.declared.Player.{Player}
 use Rattle.programs.specs.Held.{Held, Target, Edit, bytesIn}
 use Rattle.controls.specs.declared.Change.the-variants as change
 use Rattle.controls.specs.declared.Reading.{Reading}
@@ -74,7 +75,7 @@ NotIdentify order.StoreEdit = Unit {0}
 NotIdentify order.StoreAll = Unit {0}
 NotIdentify (order.Refused check) = Unit {0}
 
-order-same : (settings : Settings) (player : ℕ) (o : Order) (body : List ℕ) (held : Held) → NotIdentify o
+order-same : (settings : Settings) (player : Player) (o : Order) (body : List ℕ) (held : Held) → NotIdentify o
     → orderDoes PodPro settings player o body held ≡ orderDoes Pod settings player o body held
 unfolding orderDoes sizeOf hasSpare deviceOf
 order-same settings player (order.Identify cc) body held not = absurd not
@@ -91,7 +92,7 @@ not-identify : (tests : List (Test Check)) (body : List ℕ) → (AllHold tests 
 unfolding bodyOrder
 not-identify tests body other = tested-cases NotIdentify tests order.Refused (bodyOrder body) (λ all. rw (other all) (order-cases NotIdentify (opcodeOf body) (typeOf body) (programOf body) tt tt tt tt tt tt)) (λ _ _. tt)
 
-module _ (settings : Settings) (player : ℕ) (held : Held) where
+module _ (settings : Settings) (player : Player) (held : Held) where
   -- Every SysEx that is not an identity request does the same,
   pub sysex-same : (body : List ℕ) → isIdentity body ≡ false → bodyDoes PodPro settings player body held ≡ bodyDoes Pod settings player body held
   unfolding judgeOf
@@ -224,7 +225,7 @@ either-way false x y z same = refl
 
 module _ (settings : Settings) where
   -- A message that is not apart does the same,
-  pub message-same : (player : ℕ) (held : Held) (m : Message) → Alike m → messageDoes PodPro settings player held m ≡ messageDoes Pod settings player held m
+  pub message-same : (player : Player) (held : Held) (m : Message) → Alike m → messageDoes PodPro settings player held m ≡ messageDoes Pod settings player held m
   unfolding messageDoes channelDoes isProgramChange takesProgramChange sizeOf
   message-same player held (SysEx body) alike = sysex-same settings player held body alike
   message-same player held TooLong alike = refl
@@ -255,7 +256,7 @@ module _ (settings : Settings) where
 
   -- A list of moves none of which is apart:
   list-same : (moves : List Move) (held : Held) → AlikeMoves moves
-      → (let fs = handing (handsOf settings (Moves moves)) in
+      → (let fs = handing (handsOf settings (Moves playerNumber moves)) in
       (saidsOf (boxRules (numberOf PodPro) settings) held fs ≡ saidsOf (boxRules (numberOf Pod) settings) held fs)
       × (heldAfter (boxRules (numberOf PodPro) settings) held fs ≡ heldAfter (boxRules (numberOf Pod) settings) held fs))
   unfolding kindOf numberOf
@@ -263,7 +264,7 @@ module _ (settings : Settings) where
   list-same (move ∷ moves) held alike =
       let same = message-same panel held (moveMessage settings move) (λ _. alike .0) in
       let rest = list-same moves (messageDoes Pod settings panel held (moveMessage settings move) .held) (alike .1) in
-      (rw (same, rest .0), ap (λ (o : Outcome). heldAfter (boxRules (numberOf PodPro) settings) (o .held) (handing (handsOf settings (Moves moves)))) same ∙ rest .1)
+      (rw (same, rest .0), ap (λ (o : Outcome). heldAfter (boxRules (numberOf PodPro) settings) (o .held) (handing (handsOf settings (Moves playerNumber moves)))) same ∙ rest .1)
 
   pub moves-same : (moves : List Move) (held : Held) (numbers : List ℕ) → AlikeMoves moves
       → movesOf (numberOf PodPro) settings moves held numbers ≡ movesOf (numberOf Pod) settings moves held numbers

@@ -11,7 +11,7 @@ use Rattle.ground.specs.Lists.{written}
 use Rattle.ground.specs.Calls.{left, leaves}
 use Rattle.kinds.specs.declared.Kind.{Kind}
 use Rattle.kinds.specs.Kinds.{kindOf}
-use Rattle.programs.specs.Memory.{memorySize, markCount}
+use Rattle.programs.specs.Memory.{playerOf, memorySize, markCount}
 use Rattle.programs.specs.Held.{Held}
 use Rattle.framing.specs.declared.Receiver.{Receiver}
 use Rattle.framing.specs.declared.Event.{Event}
@@ -21,7 +21,7 @@ use Rattle.framing.specs.Places.{Belongs}
 use Rattle.framing.proofs.Places.{belongs}
 use Rattle.sockets.specs.Framer.{Message, SysEx, TooLong, Channel}
 use Rattle.sockets.specs.Box.{lent, took}
-use Rattle.sockets.specs.Promise.{socketNumber, socketOf, stepDoes}
+use Rattle.sockets.specs.Promise.{socketOf, stepDoes}
 use Rattle.sysex.specs.declared.Settings.{Settings}
 use Rattle.sysex.specs.declared.Order.{Order}
 use Rattle.sysex.specs.declared.Order.the-variants as order
@@ -34,7 +34,7 @@ use Rattle.carrying.specs.Carrying.{Outcome, Left}
 use Rattle.carrying.proofs.Numbered.{does-number}
 use Rattle.podbox.specs.Messages.{messageDoes}
 use Rattle.podbox.specs.Whole.{bodyOf, messageOrder}
-use Rattle.podbox.specs.Box.{limit, panel, boxRules, takeOf, wholeOf}
+use Rattle.podbox.specs.Box.{limit, socketPlayer, boxRules, takeOf, wholeOf}
 use Rattle.demands.specs.Answered.{ByteNumber, PanelNumber, Confined, OnePlace, Answered, AnsweredWhole}
 use Rattle.demands.proofs.Passed.{take-cases, whole-cases}
 use Rattle.demands.proofs.Carried.{Tame, stores, sends, applies, refuses, message-tame, handed-tame}
@@ -98,15 +98,14 @@ order-in order.StoreAll = inl refl
 order-in (order.Refused check) = check-in check
 
 -- Every message of the panel.
-pub every-message : (kindNumber : ℕ) (settings : Settings) (message : List ℕ) (held : Held) (reply : List ℕ) → AnsweredWhole (kindOf kindNumber) held reply (wholeOf kindNumber settings message held reply)
-every-message kindNumber settings message held reply =
-    whole-cases kindNumber settings message held reply (AnsweredWhole (kindOf kindNumber) held reply)
-    (record { numbered = inr (inr (inr (inr (inl refl)))); confined = unchanged (kindOf kindNumber) held reply _ refl })
-    (record { numbered = inr (inr (inr (inr (inr refl)))); confined = unchanged (kindOf kindNumber) held reply _ refl })
+pub every-message : (kindNumber : ℕ) (settings : Settings) (playerNumber : ℕ) (message : List ℕ) (held : Held) (reply : List ℕ) → AnsweredWhole (kindOf kindNumber) held reply (wholeOf kindNumber settings playerNumber message held reply)
+every-message kindNumber settings playerNumber message held reply =
+    whole-cases kindNumber settings playerNumber message held reply (AnsweredWhole (kindOf kindNumber) held reply)
+    (λ number lo hi. record { numbered = inr (inr (inr (inr (lo, hi)))); confined = unchanged (kindOf kindNumber) held reply _ refl })
     (λ all. record {
-      numbered = rw (does-number (kindOf kindNumber) settings panel (bodyOf message) held (messageOrder (kindOf kindNumber) settings message)) (order-in (messageOrder (kindOf kindNumber) settings message));
-      confined = tame-confined (kindOf kindNumber) held reply _ (handed-tame (kindOf kindNumber) settings panel held (leb-true _ _ (all .1 .0)) message)
-          (marking-length (leb-true _ _ (all .1 .1 .0)) (handed-marks (kindOf kindNumber) settings panel held message));
+      numbered = rw (does-number (kindOf kindNumber) settings (playerOf playerNumber) (bodyOf message) held (messageOrder (kindOf kindNumber) settings message)) (order-in (messageOrder (kindOf kindNumber) settings message));
+      confined = tame-confined (kindOf kindNumber) held reply _ (handed-tame (kindOf kindNumber) settings (playerOf playerNumber) held (leb-true _ _ (all .1 .0)) message)
+          (marking-length (leb-true _ _ (all .1 .1 .0)) (handed-marks (kindOf kindNumber) settings (playerOf playerNumber) held message));
     })
 
 module _ (kindNumber : ℕ) (settings : Settings) (r : Receiver) (byte : ℕ) (held : Held) (receive reply : List ℕ) where
@@ -126,10 +125,10 @@ module _ (kindNumber : ℕ) (settings : Settings) (r : Receiver) (byte : ℕ) (h
 
   module _ (socket : ℕ) where
     message-answered : memorySize (kindOf kindNumber) ≤ length (held .memory) → markCount ≤ length (held .marks) → (m : Message)
-        → (let o = messageDoes (kindOf kindNumber) settings (socketNumber (socketOf socket)) held m in
+        → (let o = messageDoes (kindOf kindNumber) settings (socketPlayer (socketOf socket)) held m in
         Answered (kindOf kindNumber) r byte held receive reply (took (stepOf (limit (kindOf kindNumber)) r byte .receiver) (o .answer) (o .held) receive (written (o .sent) reply)))
     message-answered m k message =
-        let player = socketNumber (socketOf socket) in
+        let player = socketPlayer (socketOf socket) in
         done _ (message-tame (kindOf kindNumber) settings player held m message) (marking-length k (message-marks (kindOf kindNumber) settings player held message))
 
     event-answered : memorySize (kindOf kindNumber) ≤ length (held .memory) → markCount ≤ length (held .marks) → (e : Event) → Belongs (limit (kindOf kindNumber)) r byte e

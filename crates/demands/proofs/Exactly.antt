@@ -16,6 +16,8 @@ use Rattle.ground.proofs.Tests.{by}
 use Rattle.halves.specs.HalfBytes.{join}
 use Rattle.kinds.specs.declared.Kind.{Kind}
 use Rattle.kinds.specs.Kinds.{kindOf}
+use Rattle.programs.specs.declared.Player.{Player}
+use Rattle.programs.specs.Memory.{playerOf}
 use Rattle.programs.specs.Held.{Held, Target, storeIn}
 use Rattle.framing.specs.declared.Receiver.{Receiver}
 use Rattle.framing.specs.declared.Event.the-variants as event
@@ -32,7 +34,7 @@ use Rattle.carrying.specs.Carrying.{Outcome, refusing, orderDoes, bodyDoes, sen
 use Rattle.carrying.proofs.Understands.{meant, data-behind, is-long}
 use Rattle.podbox.specs.Messages.{messageDoes}
 use Rattle.podbox.specs.Whole.{isFramed, bodyOf, handedDoes}
-use Rattle.podbox.specs.Box.{limit, panel, takeTests, wholeTests, takeOf, wholeOf}
+use Rattle.podbox.specs.Box.{limit, takeTests, wholeTests, takeOf, wholeOf}
 use Rattle.podbox.proofs.Frames.{frame-body, framed-is}
 use Rattle.podbox.proofs.Orders.{handed-does}
 use Rattle.podbox.proofs.Taking.{sender}
@@ -41,7 +43,7 @@ use Rattle.demands.proofs.Passed.{take-passed, whole-passed}
 use Rattle.demands.proofs.Accepts.{dump-judged, request-judged, identity-judged}
 use Rattle.demands.proofs.Forms.{Opens, store-does, send-does, dump-data, dump-opens, request-opens, identity-opens, ended-does}
 
-module _ (kind : Kind) (settings : Settings) (player : ℕ) (held : Held) where
+module _ (kind : Kind) (settings : Settings) (player : Player) (held : Held) where
   abbrev pub Does : List ℕ → Outcome
   Does body = bodyDoes kind settings player body held
 
@@ -140,10 +142,10 @@ module _ (kind : Kind) (settings : Settings) (player : ℕ) (held : Held) where
       }
 
 -- Exactly, at the calls of the box, where no test of the call fails. The panel's:
-pub whole-call : (kindNumber : ℕ) (settings : Settings) (message : List ℕ) (held : Held) (reply : List ℕ) → AllHold (wholeTests kindNumber settings held reply)
-    → (let o = handedDoes (kindOf kindNumber) settings panel message held in
-    (wholeOf kindNumber settings message held reply ≡ leaves o reply) × Exactly (kindOf kindNumber) settings panel held (λ body. message ≡ ended body) o)
-whole-call kindNumber settings message held reply all = (whole-passed kindNumber settings message held reply all, whole-exactly (kindOf kindNumber) settings panel held message)
+pub whole-call : (kindNumber : ℕ) (settings : Settings) (playerNumber : ℕ) (message : List ℕ) (held : Held) (reply : List ℕ) → AllHold (wholeTests kindNumber settings playerNumber held reply)
+    → (let o = handedDoes (kindOf kindNumber) settings (playerOf playerNumber) message held in
+    (wholeOf kindNumber settings playerNumber message held reply ≡ leaves o reply) × Exactly (kindOf kindNumber) settings (playerOf playerNumber) held (λ body. message ≡ ended body) o)
+whole-call kindNumber settings playerNumber message held reply all = (whole-passed kindNumber settings playerNumber message held reply all, whole-exactly (kindOf kindNumber) settings (playerOf playerNumber) held message)
 
 -- and the byte's, on a socket in any sound state, that finishes a SysEx
 pub byte-call : (kindNumber : ℕ) (settings : Settings) (socket : ℕ) (r : Receiver) (byte : ℕ) (held : Held) (receive reply : List ℕ) (count : ℕ)

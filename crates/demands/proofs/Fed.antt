@@ -10,6 +10,7 @@ use borrow.Author.Tests.{leb-true, leb-false, le-ltb, lt-ltb}
 use Rattle.ground.specs.Lists.{allAtMost}
 use Rattle.kinds.specs.declared.Kind.{Kind}
 use Rattle.kinds.specs.Kinds.{kindOf}
+use Rattle.programs.specs.declared.Player.{Player}
 use Rattle.programs.specs.Held.{Held}
 use Rattle.sockets.specs.Framer.{closed}
 use Rattle.sockets.specs.Calls.{Socket, feed}
@@ -30,7 +31,7 @@ use Rattle.demands.proofs.Sockets.{lawful}
 
 module _ (kind : Kind) (settings : Settings) where
   -- what F7 finishes does what the message does that is handed over whole by the same player, too long or not
-  closed-does : (player : ℕ) (rest : List ℕ) (held : Held) → allAtMost 0x7F rest ≡ true
+  closed-does : (player : Player) (rest : List ℕ) (held : Held) → allAtMost 0x7F rest ≡ true
       → messageDoes kind settings player held (closed (limit kind) (0xF0 ∷ rest)) ≡ handedDoes kind settings player (frame rest) held
   unfolding messageDoes
   closed-does player rest held low = go (leb (length (0xF0 ∷ rest)) (limit kind)) refl
@@ -47,7 +48,7 @@ module _ (kind : Kind) (settings : Settings) where
           rw (h, handed-does kind settings (frame rest) player held, lt-ltb (longest kind) (length (frame rest)) (omega (arith, long)))
 
   -- A message that is not framed is 10 or 11 when it is handed over; on a socket its bytes finish what they finish (`box-demand3`).
-  pub not-framed : (player : ℕ) (message : List ℕ) (held : Held) → isFramed message ≡ false
+  pub not-framed : (player : Player) (message : List ℕ) (held : Held) → isFramed message ≡ false
       → handedDoes kind settings player message held ≡ cond (ltb (longest kind) (length message)) (refusing held 10) (refusing held 11)
   not-framed player message held e = rw (handed-does kind settings message player held, e)
 

@@ -16,6 +16,7 @@ use Rattle.halves.proofs.Laws.{length-split, join-split, split-halves}
 use Rattle.kinds.specs.declared.Kind.{Kind}
 use Rattle.kinds.specs.Kinds.{sizeOf, deviceOf}
 use Rattle.kinds.proofs.AnyKind.{size-bounds, device-low}
+use Rattle.programs.specs.declared.Player.{Player}
 use Rattle.programs.specs.Memory.{memorySize}
 use Rattle.programs.specs.Held.{Held, Target, One, Edit, All, placeFor, countFor}
 use Rattle.programs.proofs.Slots.{sent-most}
@@ -34,7 +35,7 @@ use Rattle.podbox.proofs.Frames.{frame, frame-body, frame-framed}
 use Rattle.podbox.proofs.Orders.{handed-does}
 
 -- what an order does, by what it names
-module _ (kind : Kind) (settings : Settings) (player : ℕ) where
+module _ (kind : Kind) (settings : Settings) (player : Player) where
   pub store-does : (t : Target) (body : List ℕ) (held : Held) → orderDoes kind settings player (storeOrder t) body held ≡ storing kind player t body held
   unfolding orderDoes
   store-does (One p) body held = refl
@@ -54,7 +55,7 @@ dump-data kind Edit bytes = join-split bytes
 dump-data kind All bytes = join-split bytes
 
 -- what is named lies in memory
-pub named-inside : (kind : Kind) (player : ℕ) (t : Target) → There t → placeFor kind player t + countFor kind t ≤ memorySize kind
+pub named-inside : (kind : Kind) (player : Player) (t : Target) → There t → placeFor kind player t + countFor kind t ≤ memorySize kind
 named-inside kind player (One p) h = let inside = program-inside (sizeOf kind) p h in omega arith
 named-inside kind player Edit h = omega arith
 named-inside kind player All h = omega arith
@@ -101,7 +102,7 @@ identity-opens kind settings cc body i = rw (i .form) (record { first = refl; lo
 
 module _ (kind : Kind) (settings : Settings) where
   -- a message that is such a body and F7 does what its body does
-  pub ended-does : (player : ℕ) (body : List ℕ) (held : Held) → Opens kind body → handedDoes kind settings player (ended body) held ≡ bodyDoes kind settings player body held
+  pub ended-does : (player : Player) (body : List ℕ) (held : Held) → Opens kind body → handedDoes kind settings player (ended body) held ≡ bodyDoes kind settings player body held
   unfolding messageDoes
   ended-does player body held o =
       let rest = drop 1 body in

@@ -14,7 +14,8 @@ use Rattle.ground.proofs.Tests.{by}
 use Rattle.ground.proofs.InOrder.{tested-map, tested-renamed, tested-append, tested-when, tested-failed, tested-exactly}
 use Rattle.kinds.specs.declared.Kind.{Kind}
 use Rattle.kinds.specs.Kinds.{kindOf, sizeOf}
-use Rattle.programs.specs.Memory.{memorySize, editPlace, partOf}
+use Rattle.programs.specs.declared.Player.{Player}
+use Rattle.programs.specs.Memory.{playerOf, memorySize, editPlace, partOf}
 use Rattle.programs.specs.Held.{Held, Edit, bytesIn}
 use Rattle.programs.proofs.Parts.{edit-length}
 use Rattle.controls.specs.Table.{rowOf}
@@ -36,7 +37,7 @@ use Rattle.framing.specs.declared.Receiver.{Receiver}
 use Rattle.framing.specs.Bytes.{stepOf}
 use Rattle.sockets.specs.Framer.{Message, SysEx, TooLong, Channel, Happening, Nothing, Cut, Finished}
 use Rattle.sockets.specs.Box.{lent, took, happeningDoes, directDoes}
-use Rattle.sockets.specs.Promise.{happeningOf, socketNumber, socketOf, stepDoes, byteOf, directOf}
+use Rattle.sockets.specs.Promise.{happeningOf, socketOf, stepDoes, byteOf, directOf}
 use Rattle.sysex.specs.declared.Settings.{Settings}
 use Rattle.sysex.specs.declared.Order.{Order}
 use Rattle.sysex.specs.declared.Order.the-variants as order
@@ -53,7 +54,7 @@ use Rattle.podbox.specs.Settings.{isValid}
 use Rattle.podbox.specs.Messages.{isController, channelTests, changeAnswer, controllerDoes, programChangeDoes, channelDoes, messageDoes}
 use Rattle.podbox.specs.Whole.{bodyOf, messageTests, messageOrder}
 use Rattle.podbox.specs.Moves.{moveMessage}
-use Rattle.podbox.specs.Box.{Took, limit, kindTest, panel, Moves, plainAnswer, boxRules, takeTests, wholeTests, movesTests, takeOf, wholeOf, movesOf}
+use Rattle.podbox.specs.Box.{Took, limit, kindTest, playerTest, Moves, plainAnswer, boxRules, takeTests, wholeTests, movesTests, takeOf, wholeOf, movesOf}
 use Rattle.podbox.proofs.Taking.{sender}
 use Rattle.podbox.proofs.OwnChannel.{on-channel}
 use Rattle.costerbloom.specs.Numbers.{scaleCall, memoryBack, backCall}
@@ -66,7 +67,7 @@ in-order ts given done number other e = (
   (λ f. e ∙ tested-failed refused done f),
 )
 
-module _ (kind : Kind) (settings : Settings) (player : ℕ) (held : Held) where
+module _ (kind : Kind) (settings : Settings) (player : Player) (held : Held) where
   -- what a body that passes its checks answers, and the checks in front of it
   abbrev pub passedBody : List ℕ → Answer
   passedBody body = orderDoes kind settings player (bodyOrder body) body held .answer
@@ -130,51 +131,51 @@ module _ (kindNumber : ℕ) (settings : Settings) (socket : ℕ) (r : Receiver) 
   abbrev happening : Happening
   happening = happeningOf (stepOf (limit (kindOf kindNumber)) r byte .event) receive
 
-  effect-tested : memorySize (kindOf kindNumber) ≤ length (held .memory) → socketNumber (socketOf socket) ≡ socket → (h : Happening)
-      → happeningDoes (boxRules kindNumber settings) held (socketOf socket) h .answer ≡ tested (finishTests (kindOf kindNumber) settings socket held h) refused (passed (kindOf kindNumber) settings socket held h)
-  effect-tested m s Nothing = refl
-  effect-tested m s Cut = refl
-  effect-tested m s (Finished message) = rw s (message-tested (kindOf kindNumber) settings socket held m message)
+  effect-tested : memorySize (kindOf kindNumber) ≤ length (held .memory) → (h : Happening)
+      → happeningDoes (boxRules kindNumber settings) held (socketOf socket) h .answer ≡ tested (finishTests (kindOf kindNumber) settings (playerOf socket) held h) refused (passed (kindOf kindNumber) settings (playerOf socket) held h)
+  effect-tested m Nothing = refl
+  effect-tested m Cut = refl
+  effect-tested m (Finished message) = rw (sender socket) (message-tested (kindOf kindNumber) settings (playerOf socket) held m message)
 
-  take-tested : takeOf kindNumber settings socket r byte held receive reply .answer ≡ tested (byteTests kindNumber settings socket byte (lent r held receive reply)) refused (passed (kindOf kindNumber) settings socket held happening)
+  take-tested : takeOf kindNumber settings socket r byte held receive reply .answer ≡ tested (byteTests kindNumber settings socket byte (lent r held receive reply)) refused (passed (kindOf kindNumber) settings (playerOf socket) held happening)
   unfolding byteOf stepDoes
   take-tested =
       let ts = takeTests kindNumber settings socket (lent r held receive reply) in
-      let last = passed (kindOf kindNumber) settings socket held happening in
+      let last = passed (kindOf kindNumber) settings (playerOf socket) held happening in
       tested-map (λ (l : Took). l .answer) ts (λ number. took r (plainAnswer number) held receive reply) _
-      ∙ tested-when ts refused _ (tested (finishTests (kindOf kindNumber) settings socket held happening) refused last)
-      (λ all. effect-tested (leb-true _ _ (all .1 .0)) (sender socket (leb-true socket 1 (all .1 .1 .1 .1 .1 .0))) happening)
-      ∙ sym (tested-append ts (finishTests (kindOf kindNumber) settings socket held happening) refused last)
+      ∙ tested-when ts refused _ (tested (finishTests (kindOf kindNumber) settings (playerOf socket) held happening) refused last)
+      (λ all. effect-tested (leb-true _ _ (all .1 .0)) happening)
+      ∙ sym (tested-append ts (finishTests (kindOf kindNumber) settings (playerOf socket) held happening) refused last)
 
   pub byte-order : (number : ℕ) → (takeOf kindNumber settings socket r byte held receive reply .answer ≡ refused number) ↔ FirstToFail (byteTests kindNumber settings socket byte (lent r held receive reply)) number
-  byte-order number = in-order (byteTests kindNumber settings socket byte (lent r held receive reply)) _ _ number (passed-not (kindOf kindNumber) settings socket held happening number) take-tested
+  byte-order number = in-order (byteTests kindNumber settings socket byte (lent r held receive reply)) _ _ number (passed-not (kindOf kindNumber) settings (playerOf socket) held happening number) take-tested
 
--- The panel's: 32 for the kind, 30, 32, then the message's checks.
-module _ (kindNumber : ℕ) (settings : Settings) (message : List ℕ) (held : Held) (reply : List ℕ) where
-  whole-tested : wholeOf kindNumber settings message held reply .answer ≡ tested (panelTests kindNumber settings message held reply) refused (passedBody (kindOf kindNumber) settings panel held (bodyOf message))
+-- The panel's: 32 for the kind, 30, 31, 32, then the message's checks.
+module _ (kindNumber : ℕ) (settings : Settings) (playerNumber : ℕ) (message : List ℕ) (held : Held) (reply : List ℕ) where
+  whole-tested : wholeOf kindNumber settings playerNumber message held reply .answer ≡ tested (panelTests kindNumber settings playerNumber message held reply) refused (passedBody (kindOf kindNumber) settings (playerOf playerNumber) held (bodyOf message))
   unfolding directOf messageOrder
   whole-tested =
-      let ts = wholeTests kindNumber settings held reply in
+      let ts = wholeTests kindNumber settings playerNumber held reply in
       tested-map (λ (l : Left). l .answer) ts (λ number. left (plainAnswer number) held reply) _
-      ∙ ap (tested ts refused) (checks-tested (kindOf kindNumber) settings panel held (messageTests (kindOf kindNumber) settings message) (bodyOf message))
-      ∙ sym (tested-append ts (map (renamed checkNumber) (messageTests (kindOf kindNumber) settings message)) refused (passedBody (kindOf kindNumber) settings panel held (bodyOf message)))
+      ∙ ap (tested ts refused) (rw (sender playerNumber) (checks-tested (kindOf kindNumber) settings (playerOf playerNumber) held (messageTests (kindOf kindNumber) settings message) (bodyOf message)))
+      ∙ sym (tested-append ts (map (renamed checkNumber) (messageTests (kindOf kindNumber) settings message)) refused (passedBody (kindOf kindNumber) settings (playerOf playerNumber) held (bodyOf message)))
 
-  pub panel-order : (number : ℕ) → (wholeOf kindNumber settings message held reply .answer ≡ refused number) ↔ FirstToFail (panelTests kindNumber settings message held reply) number
+  pub panel-order : (number : ℕ) → (wholeOf kindNumber settings playerNumber message held reply .answer ≡ refused number) ↔ FirstToFail (panelTests kindNumber settings playerNumber message held reply) number
   panel-order number =
-      in-order (panelTests kindNumber settings message held reply) _ _ number
-      (done-not-refused (kindOf kindNumber) settings panel (bodyOf message) held number (bodyOrder (bodyOf message)) (passed-done (bodyOf message))) whole-tested
+      in-order (panelTests kindNumber settings playerNumber message held reply) _ _ number
+      (done-not-refused (kindOf kindNumber) settings (playerOf playerNumber) (bodyOf message) held number (bodyOrder (bodyOf message)) (passed-done (bodyOf message))) whole-tested
 
--- A list of moves: 33, 34, 32 for the kind, 30, 32.
-pub list-order : (kindNumber : ℕ) (settings : Settings) (moves : List Move) (held : Held) (numbers : List ℕ) (number : ℕ)
-    → (movesOf kindNumber settings moves held numbers .answer ≡ refused number) ↔ FirstToFail (movesTests kindNumber settings moves held numbers) number
+-- A list of moves: 33, 34, 32 for the kind, 30, 31, 32.
+pub list-order : (kindNumber : ℕ) (settings : Settings) (playerNumber : ℕ) (moves : List Move) (held : Held) (numbers : List ℕ) (number : ℕ)
+    → (movesOf kindNumber settings playerNumber moves held numbers .answer ≡ refused number) ↔ FirstToFail (movesTests kindNumber settings playerNumber moves held numbers) number
 unfolding directOf
-list-order kindNumber settings moves held numbers number =
-    let ts = movesTests kindNumber settings moves held numbers in
+list-order kindNumber settings playerNumber moves held numbers number =
+    let ts = movesTests kindNumber settings playerNumber moves held numbers in
     in-order ts _ answer.Taken number (λ e. let z : _≡_ {A = ℕ} 0 1 = cc in omega arith)
-    (tested-map (λ (l : Left). l .answer) ts (λ n. left (plainAnswer n) held numbers) (leaves (directDoes (boxRules kindNumber settings) held (Moves moves)) numbers))
+    (tested-map (λ (l : Left). l .answer) ts (λ n. left (plainAnswer n) held numbers) (leaves (directDoes (boxRules kindNumber settings) held (Moves playerNumber moves)) numbers))
 
 -- Each of its moves, "in the usual order": 17, 18, 19.
-module _ (kind : Kind) (settings : Settings) (valid : isValid settings ≡ true) (player : ℕ) (held : Held) (m : memorySize kind ≤ length (held .memory)) (move : Move) where
+module _ (kind : Kind) (settings : Settings) (valid : isValid settings ≡ true) (player : Player) (held : Held) (m : memorySize kind ≤ length (held .memory)) (move : Move) where
   abbrev moveAnswer : Answer
   moveAnswer = messageDoes kind settings player held (moveMessage settings move) .answer
 
@@ -198,7 +199,7 @@ module _ (kind : Kind) (settings : Settings) (valid : isValid settings ≡ true)
       let low = row-sane kind (move .controller) .low in
       sent-tested ∙ (rw (listed, lt-leb (move .value) (rowOf kind (move .controller) .highest) (omega arith)))
 
--- Scaling: 32 for the kind, 17, 18. Showing back: 32 for the kind, 30, 17, 19, 40.
+-- Scaling: 32 for the kind, 17, 18. Showing back: 32 for the kind, 30, 31, 17, 19, 40.
 reading-order : (ts : List (Test ℕ)) (given : Reading) (value number : ℕ) → given ≡ tested ts reading.Refused (reading.Value value) → (given ≡ reading.Refused number) ↔ FirstToFail ts number
 reading-order ts given value number e = (
   (λ f. tested-exactly ts reading.Refused (reading.Value value) number (λ s. let z : _≡_ {A = ℕ} 0 1 = cc in omega arith) (λ m n s. ap refusalOf s) (sym e ∙ f)),
@@ -214,15 +215,15 @@ shown-tested : (kind : Kind) (controller stored : ℕ)
     → (let x = shownOf (rowOf kind controller) stored in x ≡ tested (test 40 (isValue x) ∷ []) reading.Refused (reading.Value (valueOf x)))
 shown-tested kind controller stored = ⊎-elim (λ s. rw (s .1)) (λ s. rw (s .0)) (row-shown kind controller (formed kind controller) stored)
 
-pub showing-order : (kindNumber controller : ℕ) (memory : List ℕ) (number : ℕ)
-    → (backCall kindNumber controller memory ≡ reading.Refused number) ↔ FirstToFail (showingTests kindNumber controller memory) number
+pub showing-order : (kindNumber playerNumber controller : ℕ) (memory : List ℕ) (number : ℕ)
+    → (backCall kindNumber playerNumber controller memory ≡ reading.Refused number) ↔ FirstToFail (showingTests kindNumber playerNumber controller memory) number
 unfolding backCall memoryBack backOf
-showing-order kindNumber controller memory number =
+showing-order kindNumber playerNumber controller memory number =
     let kind = kindOf kindNumber in
     let r = rowOf kind controller in
-    let edit = partOf (editPlace kind panel) (sizeOf kind) memory in
+    let edit = partOf (editPlace kind (playerOf playerNumber)) (sizeOf kind) memory in
     let x = shownOf r (numberIn r edit) in
-    let front = kindTest kindNumber ∷ memoryTest kind (length memory) ∷ backTests kind r edit in
-    reading-order (showingTests kindNumber controller memory) _ (valueOf x) number
+    let front = kindTest kindNumber ∷ memoryTest kind (length memory) ∷ playerTest playerNumber ∷ backTests kind r edit in
+    reading-order (showingTests kindNumber playerNumber controller memory) _ (valueOf x) number
     (ap (tested front reading.Refused) (shown-tested kind controller (numberIn r edit))
     ∙ sym (tested-append front (test 40 (isValue x) ∷ []) reading.Refused (reading.Value (valueOf x))))

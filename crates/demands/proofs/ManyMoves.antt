@@ -13,6 +13,7 @@ use Rattle.ground.specs.Tests.{AllHold}
 use Rattle.ground.specs.Calls.{left}
 use Rattle.kinds.specs.declared.Kind.{Kind}
 use Rattle.kinds.specs.Kinds.{kindOf}
+use Rattle.programs.specs.declared.Player.{Player}
 use Rattle.programs.specs.Memory.{memorySize}
 use Rattle.programs.specs.Held.{Held, Edit, bytesIn}
 use Rattle.programs.proofs.Parts.{edit-length}
@@ -62,25 +63,25 @@ module _ (kindNumber : ℕ) (settings : Settings) where
   -- the messages of a list, and the same sent on a socket, leave and answer the same
   module _ (s : Socket) where
     same-held : (moves : List Move) (held : Held)
-        → heldAfter rules held (handing (handsOf settings (Moves moves))) ≡ heldAfter rules held (sentOn kindNumber settings s moves)
+        → heldAfter rules held (handing (handsOf settings (Moves playerNumber moves))) ≡ heldAfter rules held (sentOn kindNumber settings s moves)
     same-held [] held = refl
     same-held (move ∷ moves) held =
         let e = any-player (kindOf kindNumber) settings panel (socketNumber s) held (0xB0 + settings .channel) (move .controller) (move .value) in
-        (λ i. heldAfter rules (e i .held) (handing (handsOf settings (Moves moves)))) ∙ same-held moves _
+        (λ i. heldAfter rules (e i .held) (handing (handsOf settings (Moves playerNumber moves)))) ∙ same-held moves _
 
     same-saids : (moves : List Move) (held : Held)
-        → saidsOf rules held (handing (handsOf settings (Moves moves))) ≡ saidsOf rules held (sentOn kindNumber settings s moves)
+        → saidsOf rules held (handing (handsOf settings (Moves playerNumber moves))) ≡ saidsOf rules held (sentOn kindNumber settings s moves)
     same-saids [] held = refl
     same-saids (move ∷ moves) held =
         let e = any-player (kindOf kindNumber) settings panel (socketNumber s) held (0xB0 + settings .channel) (move .controller) (move .value) in
-        (λ i. saidOf (e i) ∷ saidsOf rules (e i .held) (handing (handsOf settings (Moves moves))))
+        (λ i. saidOf (e i) ∷ saidsOf rules (e i .held) (handing (handsOf settings (Moves playerNumber moves))))
         ∙ ap (λ (l : List (Said Answer)). saidOf (e 1) ∷ l) (same-saids moves _)
 
     -- "The edit buffer afterwards and the number noted for each move are those of the moves sent one by one on our channel", on either socket.
-    pub one-by-one : (moves : List Move) (held : Held) (numbers : List ℕ) → AllHold (movesTests kindNumber settings moves held numbers)
-        → OneByOne kindNumber settings s moves held numbers (movesOf kindNumber settings moves held numbers)
+    pub one-by-one : (moves : List Move) (held : Held) (numbers : List ℕ) → AllHold (movesTests kindNumber settings playerNumber moves held numbers)
+        → OneByOne kindNumber settings s moves held numbers (movesOf kindNumber settings playerNumber moves held numbers)
     one-by-one moves held numbers all =
-        moves-passed kindNumber settings moves held numbers all
+        moves-passed kindNumber settings playerNumber moves held numbers all
         ∙ (λ i. left Taken (same-held moves held i) (written (noted (same-saids moves held i)) numbers))
 
   -- the same as bytes
@@ -145,21 +146,21 @@ module _ (kindNumber : ℕ) (settings : Settings) where
 
   -- Feeding those bytes to a fresh socket gives the same: either socket, wherever the other one stands.
   pub list-fed : (moves : List Move) (numbers : List ℕ) (s : Socket) (w v : WorldOf rules) (saids : SaidsOf rules) → AllData moves
-      → AllHold (movesTests kindNumber settings moves (w .held) numbers) → Sound rules w → w .receiver s ≡ fresh → History rules w (feed s (movesBytes settings moves)) v saids
-      → (let l = movesOf kindNumber settings moves (w .held) numbers in (v .held ≡ l .held) × (noted saids ≡ byBytes (take (length moves) (l .reply))))
+      → AllHold (movesTests kindNumber settings playerNumber moves (w .held) numbers) → Sound rules w → w .receiver s ≡ fresh → History rules w (feed s (movesBytes settings moves)) v saids
+      → (let l = movesOf kindNumber settings playerNumber moves (w .held) numbers in (v .held ≡ l .held) × (noted saids ≡ byBytes (take (length moves) (l .reply))))
   list-fed moves numbers s w v saids low all sound new history =
       let valid = all .1 .1 .1 .1 .0 in
       let outside = fresh-outside valid (starts rules w) s (fresh-idle (w .receiver s) (w .receive s) new) in
       let d = box-from-sound kindNumber settings w v (feed s (movesBytes settings moves)) saids sound history in
       let finished = d .order ∙ bytes-finish valid (starts rules w) s moves [] outside low in
-      rw (moves-passed kindNumber settings moves (w .held) numbers all) (
+      rw (moves-passed kindNumber settings playerNumber moves (w .held) numbers all) (
         d .held ∙ ap (heldAfter rules (w .held)) finished ∙ sym (same-held s moves (w .held)),
         ap noted (d .each) ∙ bytes-answer valid (starts rules w) s moves (w .held) [] outside low
             ∙ ap (λ (l : List (Said Answer)). byBytes (noted l)) (sym (same-saids s moves (w .held))) ∙ ap byBytes (sym (numbers-written moves (w .held) numbers)),
       )
 
 -- what a list does to the edit buffer alone, and the numbers of its moves
-module _ (kind : Kind) (player : ℕ) (held : Held) (m : memorySize kind ≤ length (held .memory)) (controller value : ℕ) where
+module _ (kind : Kind) (player : Player) (held : Held) (m : memorySize kind ≤ length (held .memory)) (controller value : ℕ) where
   controller-alone : EditAlone kind player held (controllerDoes kind player controller value held .held)
   controller-alone =
       let edit = bytesIn kind player Edit held in
@@ -181,7 +182,7 @@ module _ (kindNumber : ℕ) (settings : Settings) (valid : isValid settings ≡ 
       (controller-alone (kindOf kindNumber) panel held m (move .controller) (move .value))
 
   list-alone : (moves : List Move) (held : Held) → memorySize (kindOf kindNumber) ≤ length (held .memory)
-      → EditAlone (kindOf kindNumber) panel held (heldAfter (rules kindNumber settings) held (handing (handsOf settings (Moves moves))))
+      → EditAlone (kindOf kindNumber) panel held (heldAfter (rules kindNumber settings) held (handing (handsOf settings (Moves playerNumber moves))))
   list-alone [] held m = alone-same (kindOf kindNumber) panel held
   list-alone (move ∷ moves) held m =
       let one = move-alone move held m in
@@ -206,10 +207,10 @@ module _ (kindNumber : ℕ) (settings : Settings) (valid : isValid settings ≡ 
       list-noted moves _ (omega (arith, kept)) i none (omega arith)
 
 -- Every list of moves.
-pub every-list : (kindNumber : ℕ) (settings : Settings) (moves : List Move) (held : Held) (numbers : List ℕ)
-    → AnsweredList (kindOf kindNumber) moves held numbers (movesOf kindNumber settings moves held numbers)
-every-list kindNumber settings moves held numbers =
-    moves-cases kindNumber settings moves held numbers (AnsweredList (kindOf kindNumber) moves held numbers)
+pub every-list : (kindNumber : ℕ) (settings : Settings) (playerNumber : ℕ) (moves : List Move) (held : Held) (numbers : List ℕ)
+    → AnsweredList (kindOf kindNumber) moves held numbers (movesOf kindNumber settings playerNumber moves held numbers)
+every-list kindNumber settings playerNumber moves held numbers =
+    moves-cases kindNumber settings playerNumber moves held numbers (AnsweredList (kindOf kindNumber) moves held numbers)
     (turned 30 (omega arith) (inr (inl refl)))
     (λ number lo hi. turned number (omega arith) (inr (inr (lo, hi))))
     (λ all.

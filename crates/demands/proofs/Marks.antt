@@ -12,6 +12,7 @@ use Rattle.ground.proofs.Tests.{by}
 use Rattle.ground.proofs.InOrder.{tested-cases}
 use Rattle.kinds.specs.declared.Kind.{Kind}
 use Rattle.kinds.specs.Kinds.{hasSpare}
+use Rattle.programs.specs.declared.Player.{Player}
 use Rattle.programs.specs.Memory.{markCount, putPart}
 use Rattle.programs.specs.Held.{Held, Target, One, Edit, All, slotFor, slotsFor, marked}
 use Rattle.programs.proofs.Parts.{put-length, put-append}
@@ -30,17 +31,17 @@ use Rattle.podbox.specs.Whole.{bodyOf, messageOrder, handedDoes}
 use Rattle.demands.proofs.Forms.{store-does, send-does, message-meant}
 
 -- what is named has its marks among the box's own
-pub slots-named : (player : ℕ) (t : Target) → There t → slotFor player t + slotsFor t ≤ markCount
+pub slots-named : (player : Player) (t : Target) → There t → slotFor player t + slotsFor t ≤ markCount
 slots-named player (One p) h = omega arith
 slots-named player Edit h = omega arith
 slots-named player All h = omega arith
 
-pub data Marking (kind : Kind) (player : ℕ) (marks : List ℕ) : List ℕ → Type 0 where
+pub data Marking (kind : Kind) (player : Player) (marks : List ℕ) : List ℕ → Type 0 where
   stay : Marking kind player marks marks
   move : (t : Target) (long : Bool) → There t → Marking kind player marks (marked kind player t long marks)
 
 -- as many as they were
-pub marking-length : {kind : Kind} {player : ℕ} {marks after : List ℕ} → markCount ≤ length marks → Marking kind player marks after → length after ≡ length marks
+pub marking-length : {kind : Kind} {player : Player} {marks after : List ℕ} → markCount ≤ length marks → Marking kind player marks after → length after ≡ length marks
 marking-length k stay = refl
 marking-length {kind} {player} {marks} k (move t long h) = marked-length kind player t long marks (omega (arith, slots-named player t h))
 
@@ -54,7 +55,7 @@ put-low : (place count top : ℕ) (bytes marks : List ℕ) → allAtMost top byt
 put-low place count top bytes marks b m =
     at-most-append top (take place marks) _ (at-most-take top place marks m) (at-most-append top bytes _ b (at-most-drop top count (drop place marks) (at-most-drop top place marks m)))
 
-pub marking-valid : {kind : Kind} {player : ℕ} {marks after : List ℕ} → markCount ≤ length marks → Marking kind player marks after → areMarks marks ≡ true → areMarks after ≡ true
+pub marking-valid : {kind : Kind} {player : Player} {marks after : List ℕ} → markCount ≤ length marks → Marking kind player marks after → areMarks marks ≡ true → areMarks after ≡ true
 unfolding areMarks
 marking-valid k stay valid = valid
 marking-valid {kind} {player} {marks} k (move t long h) valid =
@@ -72,7 +73,7 @@ marking-valid {kind} {player} {marks} k (move t long h) valid =
         let split = ap (putPart slot slots bytes) (sym (take-append-drop markCount marks)) ∙ put-append slot slots bytes own (drop markCount marks) (omega arith) in
         rw (split, take-at (putPart slot slots bytes own) (drop markCount marks) markCount (omega arith)) (put-low slot slots 1 bytes own (mark-low long slots) valid)
 
-module _ (kind : Kind) (settings : Settings) (player : ℕ) (held : Held) where
+module _ (kind : Kind) (settings : Settings) (player : Player) (held : Held) where
   order-marks : (body : List ℕ) (o : Order) → Meant kind settings body o → Marking kind player (held .marks) (orderDoes kind settings player o body held .held .marks)
   unfolding orderDoes
   order-marks body o (identity channel i) = stay

@@ -14,6 +14,7 @@ use Rattle.ground.proofs.InOrder.{tested-cases}
 use Rattle.kinds.specs.declared.Kind.{Kind}
 use Rattle.kinds.specs.declared.Kind.the-variants.{Pod, BassPod, PodPro}
 use Rattle.kinds.specs.Kinds.{kindOf, sizeOf, takesProgramChange}
+use Rattle.programs.specs.declared.Player.{Player}
 use Rattle.programs.specs.Memory.{programCount, memorySize}
 use Rattle.programs.specs.Held.{Held, One, Edit, bytesIn}
 use Rattle.controls.specs.declared.Change.{Change}
@@ -36,7 +37,7 @@ use Rattle.demands.proofs.EditAlone.{edit-put, edit-alone}
 use Rattle.demands.proofs.Passed.{take-passed}
 
 -- what a program change does to what the box holds
-module _ (kind : Kind) (player number : ℕ) (held : Held) (m : memorySize kind ≤ length (held .memory)) (low : 1 ≤ number) (high : number ≤ programCount) where
+module _ (kind : Kind) (player : Player) (number : ℕ) (held : Held) (m : memorySize kind ≤ length (held .memory)) (low : 1 ≤ number) (high : number ≤ programCount) where
   part-length : length (bytesIn kind player (One (number - 1)) held) ≡ sizeOf kind
   part-length =
       let inside = program-inside (sizeOf kind) (number - 1) (omega arith) in
@@ -56,7 +57,7 @@ no-controller : (status : ℕ) → status / 16 ≡ 0xC → isController status �
 unfolding isController
 no-controller status e = ne-eqb (status / 16) 0xB (λ f. omega arith)
 
-module _ (settings : Settings) (player : ℕ) (held : Held) (status number second : ℕ) where
+module _ (settings : Settings) (player : Player) (held : Held) (status number second : ℕ) where
   abbrev Does : Kind → Outcome
   Does kind = messageDoes kind settings player held (Channel status number second)
 

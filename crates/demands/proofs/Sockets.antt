@@ -11,13 +11,14 @@ use borrow.Author.Tests.{leb-true, le-leb, lt-leb}
 use Rattle.ground.specs.Tests.{AllHold}
 use Rattle.kinds.specs.declared.Kind.{Kind}
 use Rattle.kinds.specs.Kinds.{isKind, kindOf}
-use Rattle.programs.specs.Memory.{memorySize, markCount}
+use Rattle.programs.specs.declared.Player.{Player}
+use Rattle.programs.specs.Memory.{isPlayer, memorySize, markCount}
 use Rattle.programs.specs.Held.{Held}
 use Rattle.framing.proofs.Stands.{fresh-sound}
 use Rattle.sockets.specs.Framer.{Idle}
 use Rattle.sockets.specs.Calls.{Socket, S0, S1, Byte, Direct, Finish, FromSocket, FromDirect, handing}
 use Rattle.sockets.specs.Box.{Said, Away, Lawful, LeftOf, CallsOf, FinishesOf, SaidsOf, saidOf, sentOf, saidsOf, turnedAway, directDoes}
-use Rattle.sockets.specs.Promise.{socketNumber, directOf}
+use Rattle.sockets.specs.Promise.{socketNumber, socketOf, directOf}
 use Rattle.sockets.specs.History.{WorldOf, backDirect, History, direct, finishedAlong}
 use Rattle.sockets.specs.Demand.{Independent, Fresh, Sound, Roomy, starts, NoEffect}
 use Rattle.sockets.specs.Calm.{calm, calmSaids}
@@ -33,7 +34,7 @@ use Rattle.podbox.specs.declared.Move.{Move}
 use Rattle.podbox.specs.Settings.{isValid, areMarks}
 use Rattle.podbox.specs.Whole.{bodyOf, messageOrder}
 use Rattle.podbox.specs.Moves.{mostMoves, moveMessage}
-use Rattle.podbox.specs.Box.{limit, panel, Given, Whole, Moves, Delivered, FromPanel, FromList, handsOf, directTests, noted, extentOf, boxRules, wholeOf, movesOf}
+use Rattle.podbox.specs.Box.{limit, socketPlayer, Given, Whole, Moves, Delivered, FromPanel, FromList, handsOf, directTests, noted, extentOf, boxRules, wholeOf, movesOf}
 use Rattle.podbox.proofs.Taking.{some-stored}
 use Rattle.demands.specs.Moves.{FewMoves}
 use Rattle.demands.proofs.Tells.{order-tells, message-tells, channel-quiet}
@@ -53,46 +54,48 @@ tame-taken (sends bytes short) = refl
 tame-taken (applies after e stays) = refl
 tame-taken (refuses number lo hi) = rw (lt-leb 30 number (omega arith)) refl
 
-inside : (s : Socket) → leb (socketNumber s) 1 ≡ true
+inside : (s : Socket) → isPlayer (socketNumber s) ≡ true
+unfolding isPlayer
 inside S0 = refl
 inside S1 = refl
 
 module _ (kindNumber : ℕ) (settings : Settings) where
   kept : (held : Held) (f : Finish Delivered) → memorySize (kindOf kindNumber) ≤ length (held .memory)
       → memorySize (kindOf kindNumber) ≤ length (boxRules kindNumber settings .carry held f .held .memory)
-  kept held (FromSocket s m) g = omega (arith, tame-length (message-tame (kindOf kindNumber) settings (socketNumber s) held g m))
-  kept held (FromDirect (FromPanel message)) g = omega (arith, tame-length (handed-tame (kindOf kindNumber) settings panel held g message))
-  kept held (FromDirect (FromList m)) g = omega (arith, tame-length (message-tame (kindOf kindNumber) settings panel held g m))
+  kept held (FromSocket s m) g = omega (arith, tame-length (message-tame (kindOf kindNumber) settings (socketPlayer s) held g m))
+  kept held (FromDirect (FromPanel s message)) g = omega (arith, tame-length (handed-tame (kindOf kindNumber) settings (socketPlayer s) held g message))
+  kept held (FromDirect (FromList s m)) g = omega (arith, tame-length (message-tame (kindOf kindNumber) settings (socketPlayer s) held g m))
 
   -- what the messages of a list answer: a number for each move, and no reply
-  abbrev pub listSaids : Held → List Move → List (Said Answer)
-  listSaids held moves = saidsOf (boxRules kindNumber settings) held (handing (handsOf settings (Moves moves)))
+  abbrev pub listSaids : ℕ → Held → List Move → List (Said Answer)
+  listSaids playerNumber held moves = saidsOf (boxRules kindNumber settings) held (handing (handsOf settings (Moves playerNumber moves)))
 
-  pub noted-length : (held : Held) (moves : List Move) → length (noted (listSaids held moves)) ≡ length moves
-  noted-length held [] = refl
-  noted-length held (move ∷ moves) = ap suc (noted-length _ moves)
+  pub noted-length : (playerNumber : ℕ) (held : Held) (moves : List Move) → length (noted (listSaids playerNumber held moves)) ≡ length moves
+  noted-length playerNumber held [] = refl
+  noted-length playerNumber held (move ∷ moves) = ap suc (noted-length playerNumber _ moves)
 
-  none-sent : (held : Held) (moves : List Move) → sentOf answerNumber (listSaids held moves) ≡ []
-  none-sent held [] = refl
-  none-sent held (move ∷ moves) =
-      rw (channel-quiet (kindOf kindNumber) settings panel held (0xB0 + settings .channel) (move .controller) (move .value)) (none-sent _ moves)
+  none-sent : (playerNumber : ℕ) (held : Held) (moves : List Move) → sentOf answerNumber (listSaids playerNumber held moves) ≡ []
+  none-sent playerNumber held [] = refl
+  none-sent playerNumber held (move ∷ moves) =
+      rw (channel-quiet (kindOf kindNumber) settings (socketPlayer (socketOf playerNumber)) held (0xB0 + settings .channel) (move .controller) (move .value))
+      (none-sent playerNumber _ moves)
 
   away-direct : (x : Given) (held : Held) (out : List ℕ) → Away (boxRules kindNumber settings) (directTests kindNumber settings x held out)
-  away-direct (Whole message) held reply = (refl, (refl, (refl, (refl, (refl, (refl, tt))))))
-  away-direct (Moves moves) held numbers = (refl, (refl, (refl, (refl, (refl, tt)))))
+  away-direct (Whole playerNumber message) held reply = (refl, (refl, (refl, (refl, (refl, (refl, (refl, tt)))))))
+  away-direct (Moves playerNumber moves) held numbers = (refl, (refl, (refl, (refl, (refl, (refl, tt))))))
 
   enough-direct : (x : Given) (held : Held) (out : List ℕ) → AllHold (directTests kindNumber settings x held out) → memorySize (kindOf kindNumber) ≤ length (held .memory)
-  enough-direct (Whole message) held reply all = leb-true _ _ (all .1 .0)
-  enough-direct (Moves moves) held numbers all = leb-true _ _ (all .1 .1 .1 .0)
+  enough-direct (Whole playerNumber message) held reply all = leb-true _ _ (all .1 .0)
+  enough-direct (Moves playerNumber moves) held numbers all = leb-true _ _ (all .1 .1 .1 .0)
 
   told-direct : (held : Held) (x : Given) → (let o = directDoes (boxRules kindNumber settings) held x in extentOf x (o .answer) ≡ length (o .sent))
-  told-direct held (Whole message) = order-tells (kindOf kindNumber) settings panel held (messageOrder (kindOf kindNumber) settings message) (bodyOf message)
-  told-direct held (Moves moves) = sym (noted-length held moves)
+  told-direct held (Whole playerNumber message) = order-tells (kindOf kindNumber) settings (socketPlayer (socketOf playerNumber)) held (messageOrder (kindOf kindNumber) settings message) (bodyOf message)
+  told-direct held (Moves playerNumber moves) = sym (noted-length playerNumber held moves)
 
   passes-direct : (held : Held) (x : Given) → sentOf answerNumber (saidOf (directDoes (boxRules kindNumber settings) held x) ∷ [])
       ≡ sentOf answerNumber (saidsOf (boxRules kindNumber settings) held (handing (handsOf settings x)))
-  passes-direct held (Whole message) = refl
-  passes-direct held (Moves moves) = sym (none-sent held moves)
+  passes-direct held (Whole playerNumber message) = refl
+  passes-direct held (Moves playerNumber moves) = sym (none-sent playerNumber held moves)
 
   pub lawful : Lawful (boxRules kindNumber settings)
   lawful = record {
@@ -104,7 +107,7 @@ module _ (kindNumber : ℕ) (settings : Settings) where
     kept = kept;
     quiet = (refl, refl);
     cut = (refl, refl);
-    told = λ held s m g. message-tells (kindOf kindNumber) settings (socketNumber s) held m;
+    told = λ held s m g. message-tells (kindOf kindNumber) settings (socketPlayer s) held m;
     toldDirect = λ held x g. told-direct held x;
     passes = λ held x g. passes-direct held x;
   }
@@ -139,16 +142,16 @@ module _ (kindNumber : ℕ) (settings : Settings) where
     Finishes x met fs =
         finishedAlong (boxRules kindNumber settings) (direct {w = w} {x = x} out done met taken rest) ≡ fs ++ finishedAlong (boxRules kindNumber settings) rest
 
-    pub panel-finishes : (message : List ℕ) (met : done ≡ wholeOf kindNumber settings message (w .held) out) → Finishes (Whole message) met (FromDirect (FromPanel message) ∷ [])
-    panel-finishes message met = refl
+    pub panel-finishes : (playerNumber : ℕ) (message : List ℕ) (met : done ≡ wholeOf kindNumber settings playerNumber message (w .held) out) → Finishes (Whole playerNumber message) met (FromDirect (FromPanel (socketOf playerNumber) message) ∷ [])
+    panel-finishes playerNumber message met = refl
 
-    pub list-finishes : (moves : List Move) (met : done ≡ movesOf kindNumber settings moves (w .held) out)
-        → Finishes (Moves moves) met (map (λ (move : Move). FromDirect (FromList (moveMessage settings move))) moves)
-    list-finishes moves met = ap (λ (fs : FinishesOf (boxRules kindNumber settings)). fs ++ finishedAlong (boxRules kindNumber settings) rest) (handed-each moves)
+    pub list-finishes : (playerNumber : ℕ) (moves : List Move) (met : done ≡ movesOf kindNumber settings playerNumber moves (w .held) out)
+        → Finishes (Moves playerNumber moves) met (map (λ (move : Move). FromDirect (FromList (socketOf playerNumber) (moveMessage settings move))) moves)
+    list-finishes playerNumber moves met = ap (λ (fs : FinishesOf (boxRules kindNumber settings)). fs ++ finishedAlong (boxRules kindNumber settings) rest) (handed-each moves)
       where
-        handed-each : (rest : List Move) → handing (handsOf settings (Moves rest)) ≡ map (λ (move : Move). FromDirect (FromList (moveMessage settings move))) rest
+        handed-each : (rest : List Move) → handing (handsOf settings (Moves playerNumber rest)) ≡ map (λ (move : Move). FromDirect (FromList (socketOf playerNumber) (moveMessage settings move))) rest
         handed-each [] = refl
-        handed-each (move ∷ rest) = ap (λ (fs : FinishesOf (boxRules kindNumber settings)). FromDirect (FromList (moveMessage settings move)) ∷ fs) (handed-each rest)
+        handed-each (move ∷ rest) = ap (λ (fs : FinishesOf (boxRules kindNumber settings)). FromDirect (FromList (socketOf playerNumber) (moveMessage settings move)) ∷ fs) (handed-each rest)
 
   -- what a box that turns no call away holds: enough, and marks that are 0 or 1
   abbrev Able : Held → Type 0
@@ -159,10 +162,10 @@ module _ (kindNumber : ℕ) (settings : Settings) where
       let marking = carry-marks held f in
       (kept held f (able .0), omega (arith, able .1, marking-length (able .1) (marking .1)), marking-valid (able .1) (marking .1) (able .2))
     where
-      carry-marks : (held : Held) (f : Finish Delivered) → (player : ℕ) × Marking (kindOf kindNumber) player (held .marks) (boxRules kindNumber settings .carry held f .held .marks)
-      carry-marks held (FromSocket s m) = (_, message-marks (kindOf kindNumber) settings (socketNumber s) held m)
-      carry-marks held (FromDirect (FromPanel message)) = (_, handed-marks (kindOf kindNumber) settings panel held message)
-      carry-marks held (FromDirect (FromList m)) = (_, message-marks (kindOf kindNumber) settings panel held m)
+      carry-marks : (held : Held) (f : Finish Delivered) → (player : Player) × Marking (kindOf kindNumber) player (held .marks) (boxRules kindNumber settings .carry held f .held .marks)
+      carry-marks held (FromSocket s m) = (_, message-marks (kindOf kindNumber) settings (socketPlayer s) held m)
+      carry-marks held (FromDirect (FromPanel s message)) = (_, handed-marks (kindOf kindNumber) settings (socketPlayer s) held message)
+      carry-marks held (FromDirect (FromList s m)) = (_, message-marks (kindOf kindNumber) settings (socketPlayer s) held m)
 
   -- Histories exist: with a kind, valid settings and enough lent, a box with sound receivers turns no call away, if no list is too long.
   pub box-lives : isKind kindNumber ≡ true → isValid settings ≡ true → (reply : List ℕ) → longest (kindOf kindNumber) ≤ length reply → (w : WorldOf (boxRules kindNumber settings)) (calls : CallsOf (boxRules kindNumber settings))
@@ -172,26 +175,26 @@ module _ (kindNumber : ℕ) (settings : Settings) where
   box-lives known valid reply long w calls few sound m k marked rooms = live (boxRules kindNumber settings) lawful reply Able Fair ready outs w calls sound (m, k, marked) rooms (fair calls few)
     where
       Fair : Given → List ℕ → Type 0
-      Fair (Whole message) out = longest (kindOf kindNumber) ≤ length out
-      Fair (Moves moves) out = (length moves ≤ mostMoves) × (length moves ≤ length out)
+      Fair (Whole playerNumber message) out = longest (kindOf kindNumber) ≤ length out
+      Fair (Moves playerNumber moves) out = (length moves ≤ mostMoves) × (length moves ≤ length out)
 
       outs : Given → List ℕ
-      outs (Whole message) = reply
-      outs (Moves moves) = replicate (length moves) 0
+      outs (Whole playerNumber message) = reply
+      outs (Moves playerNumber moves) = replicate (length moves) 0
 
       fair : (rest : CallsOf (boxRules kindNumber settings)) → FewMoves rest → AllFair Fair outs rest
       fair [] few = tt
       fair (Byte s b ∷ rest) few = fair rest few
-      fair (Direct (Whole message) ∷ rest) few = (long, fair rest few)
-      fair (Direct (Moves moves) ∷ rest) few = ((few .0, omega (arith, length-replicate {A = ℕ} (length moves) 0)), fair rest (few .1))
+      fair (Direct (Whole playerNumber message) ∷ rest) few = (long, fair rest few)
+      fair (Direct (Moves playerNumber moves) ∷ rest) few = ((few .0, omega (arith, length-replicate {A = ℕ} (length moves) 0)), fair rest (few .1))
 
       taken-direct : (x : Given) (out : List ℕ) (held : Held) → Able held → Fair x out → AllHold (directTests kindNumber settings x held out)
-      taken-direct (Whole message) out held able h = (known, (le-leb _ _ (able .0), (le-leb _ _ (able .1), (le-leb _ _ h, (valid, (able .2, tt))))))
-      taken-direct (Moves moves) out held able h = (le-leb _ _ (h .0), (le-leb _ _ (h .1), (known, (le-leb _ _ (able .0), (valid, tt)))))
+      taken-direct (Whole playerNumber message) out held able h = (known, (le-leb _ _ (able .0), (le-leb _ _ (able .1), (le-leb _ _ h, (valid, (able .2, tt))))))
+      taken-direct (Moves playerNumber moves) out held able h = (le-leb _ _ (h .0), (le-leb _ _ (h .1), (known, (le-leb _ _ (able .0), (valid, tt)))))
 
       answered-direct : (held : Held) (x : Given) → Able held → turnedAway (answerNumber (directDoes (boxRules kindNumber settings) held x .answer)) ≡ false
-      answered-direct held (Whole message) able = tame-taken (handed-tame (kindOf kindNumber) settings panel held (able .0) message)
-      answered-direct held (Moves moves) able = refl
+      answered-direct held (Whole playerNumber message) able = tame-taken (handed-tame (kindOf kindNumber) settings (socketPlayer (socketOf playerNumber)) held (able .0) message)
+      answered-direct held (Moves playerNumber moves) able = refl
 
       ready : Ready (boxRules kindNumber settings) reply Able Fair
       ready = record {
@@ -200,7 +203,7 @@ module _ (kindNumber : ℕ) (settings : Settings) where
             (known, (le-leb _ _ (able .0), (le-leb _ _ (able .1), (le-leb (longest (kindOf kindNumber)) (length receive) (omega arith), (le-leb _ _ long, (inside s, (e, (valid, (able .2, tt)))))))));
         takenDirect = taken-direct;
         quiet = (refl, refl);
-        answered = λ held s m able. tame-taken (message-tame (kindOf kindNumber) settings (socketNumber s) held (able .0) m);
+        answered = λ held s m able. tame-taken (message-tame (kindOf kindNumber) settings (socketPlayer s) held (able .0) m);
         answeredDirect = answered-direct;
       }
 

@@ -10,6 +10,7 @@ use borrow.Author.Tests.{ne-eqb}
 use Rattle.ground.proofs.Tests.{by}
 use Rattle.ground.proofs.InOrder.{first-named, tested-cases}
 use Rattle.kinds.specs.declared.Kind.{Kind}
+use Rattle.programs.specs.declared.Player.{Player}
 use Rattle.programs.specs.Held.{Held, Edit, bytesIn}
 use Rattle.controls.specs.declared.Change.{Change}
 use Rattle.controls.specs.declared.Change.the-variants as change
@@ -32,7 +33,7 @@ change-tells : (c : Change) → answerLength (changeAnswer c) ≡ 0
 change-tells change.Applied = refl
 change-tells (change.Refused number) = refl
 
-module _ (kind : Kind) (settings : Settings) (player : ℕ) (held : Held) where
+module _ (kind : Kind) (settings : Settings) (player : Player) (held : Held) where
   pub order-tells : (o : Order) (body : List ℕ) → Tells (orderDoes kind settings player o body held)
   unfolding orderDoes
   order-tells (Identify channel) body = refl

@@ -9,7 +9,7 @@ use lib.ListN.{length}
 use Rattle.ground.proofs.InOrder.{tested-cases}
 use Rattle.kinds.specs.declared.Kind.{Kind}
 use Rattle.kinds.specs.Kinds.{kindOf, sizeOf}
-use Rattle.programs.specs.Memory.{editPlace, partOf}
+use Rattle.programs.specs.Memory.{playerOf, editPlace, partOf}
 use Rattle.programs.specs.Held.{Held}
 use Rattle.controls.specs.declared.Reading.{Reading}
 use Rattle.controls.specs.declared.Reading.the-variants as reading
@@ -27,7 +27,7 @@ use Rattle.sysex.specs.Numbers.{answerNumber, answerLength}
 use Rattle.sysex.proofs.Lengths.{longest-bounds}
 use Rattle.carrying.specs.Carrying.{Left, memoryTest}
 use Rattle.podbox.specs.declared.Move.{Move}
-use Rattle.podbox.specs.Box.{kindTest, panel, takeOf, wholeOf, movesOf}
+use Rattle.podbox.specs.Box.{kindTest, playerTest, takeOf, wholeOf, movesOf}
 use Rattle.costerbloom.specs.Numbers.{packed, readingNumber, takeNumbers, wholeNumbers, movesNumbers, scaleCall, scaleNumber, memoryBack, backCall, backNumber}
 use Rattle.demands.specs.Answered.{ByteNumber, PanelNumber}
 use Rattle.demands.specs.Moves.{ListNumber}
@@ -46,7 +46,7 @@ byte-small number = ⊎-elim (λ h. omega arith) (⊎-elim (λ h. omega arith) (
 
 panel-small : (number : ℕ) → PanelNumber number → number < 256
 panel-small number =
-    ⊎-elim (λ h. omega arith) (⊎-elim (λ h. omega arith) (⊎-elim (λ h. omega arith) (⊎-elim (λ h. omega arith) (⊎-elim (λ h. omega arith) (λ h. omega arith)))))
+    ⊎-elim (λ h. omega arith) (⊎-elim (λ h. omega arith) (⊎-elim (λ h. omega arith) (⊎-elim (λ h. omega arith) (λ h. omega arith))))
 
 pub take-told : (kindNumber : ℕ) (settings : Settings) (socket : ℕ) (receiver : Receiver) (byte : ℕ) (held : Held) (receive reply : List ℕ)
     → Told (takeOf kindNumber settings socket receiver byte held receive reply .answer) (takeNumbers kindNumber settings socket receiver byte held receive reply .answer)
@@ -55,18 +55,18 @@ take-told kindNumber settings socket receiver byte held receive reply =
     let a = every-byte kindNumber settings receiver byte held receive reply socket in
     told (kindOf kindNumber) _ (byte-small _ (a .numbered)) (a .confined .fits)
 
-pub whole-told : (kindNumber : ℕ) (settings : Settings) (message : List ℕ) (held : Held) (reply : List ℕ)
-    → Told (wholeOf kindNumber settings message held reply .answer) (wholeNumbers kindNumber settings message held reply .answer)
+pub whole-told : (kindNumber : ℕ) (settings : Settings) (playerNumber : ℕ) (message : List ℕ) (held : Held) (reply : List ℕ)
+    → Told (wholeOf kindNumber settings playerNumber message held reply .answer) (wholeNumbers kindNumber settings playerNumber message held reply .answer)
 unfolding wholeNumbers
-whole-told kindNumber settings message held reply = let a = every-message kindNumber settings message held reply in told (kindOf kindNumber) _ (panel-small _ (a .numbered)) (a .confined .fits)
+whole-told kindNumber settings playerNumber message held reply = let a = every-message kindNumber settings playerNumber message held reply in told (kindOf kindNumber) _ (panel-small _ (a .numbered)) (a .confined .fits)
 
-pub moves-told : (kindNumber : ℕ) (settings : Settings) (moves : List Move) (held : Held) (numbers : List ℕ)
-    → (let answer = movesOf kindNumber settings moves held numbers .answer in
-    (movesNumbers kindNumber settings moves held numbers .answer ≡ answerNumber answer) × ListNumber (answerNumber answer))
+pub moves-told : (kindNumber : ℕ) (settings : Settings) (playerNumber : ℕ) (moves : List Move) (held : Held) (numbers : List ℕ)
+    → (let answer = movesOf kindNumber settings playerNumber moves held numbers .answer in
+    (movesNumbers kindNumber settings playerNumber moves held numbers .answer ≡ answerNumber answer) × ListNumber (answerNumber answer))
 unfolding movesNumbers packed
-moves-told kindNumber settings moves held numbers = (
-  moves-cases kindNumber settings moves held numbers (λ (l : Left). packed (l .answer) ≡ answerNumber (l .answer)) refl (λ number lo hi. omega arith) (λ all. refl),
-  every-list kindNumber settings moves held numbers .numbered,
+moves-told kindNumber settings playerNumber moves held numbers = (
+  moves-cases kindNumber settings playerNumber moves held numbers (λ (l : Left). packed (l .answer) ≡ answerNumber (l .answer)) (λ number lo hi. omega arith) (λ all. refl),
+  every-list kindNumber settings playerNumber moves held numbers .numbered,
 )
 
 scaled-apart : (kind : Kind) (controller value : ℕ) → Apart (scaleOf kind controller value) (readingNumber (scaleOf kind controller value))
@@ -90,11 +90,11 @@ shown-apart kind controller edit (reading.Value value) e =
     let low = row-sane kind controller .low in let within = shown-smallest kind controller edit value e .1 .within in (refl, omega arith)
 shown-apart kind controller edit (reading.Refused number) e = refl
 
-pub back-apart : (kindNumber controller : ℕ) (memory : List ℕ) → Apart (backCall kindNumber controller memory) (backNumber kindNumber controller memory)
+pub back-apart : (kindNumber playerNumber controller : ℕ) (memory : List ℕ) → Apart (backCall kindNumber playerNumber controller memory) (backNumber kindNumber playerNumber controller memory)
 unfolding backNumber backCall memoryBack readingNumber
-back-apart kindNumber controller memory =
+back-apart kindNumber playerNumber controller memory =
     let kind = kindOf kindNumber in
-    let edit = partOf (editPlace kind panel) (sizeOf kind) memory in
-    tested-cases (λ (x : Reading). Apart x (readingNumber x)) (kindTest kindNumber ∷ memoryTest kind (length memory) ∷ []) reading.Refused (backOf kind controller edit)
+    let edit = partOf (editPlace kind (playerOf playerNumber)) (sizeOf kind) memory in
+    tested-cases (λ (x : Reading). Apart x (readingNumber x)) (kindTest kindNumber ∷ memoryTest kind (length memory) ∷ playerTest playerNumber ∷ []) reading.Refused (backOf kind controller edit)
     (λ _. shown-apart kind controller edit _ refl)
     (λ number _. refl)

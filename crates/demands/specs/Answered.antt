@@ -22,7 +22,7 @@ ByteNumber number = (number ≤ 4) ⊎ (((10 ≤ number) × (number ≤ 22)) ⊎
 
 abbrev pub PanelNumber : ℕ → Type 0
 PanelNumber number =
-    (number ≡ 1) ⊎ ((number ≡ 2) ⊎ (((10 ≤ number) × (number ≤ 16)) ⊎ ((number ≡ 22) ⊎ ((number ≡ 30) ⊎ (number ≡ 32)))))
+    (number ≡ 1) ⊎ ((number ≡ 2) ⊎ (((10 ≤ number) × (number ≤ 16)) ⊎ ((number ≡ 22) ⊎ ((30 ≤ number) × (number ≤ 32)))))
 
 -- what holds of the answer, of what the box holds and of the reply buffer, at every call
 pub record Confined (kind : Kind) (held : Held) (reply : List ℕ) (l : Left) : Type 0 where

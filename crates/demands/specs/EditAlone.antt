@@ -7,6 +7,7 @@ use mathlib.Core.Path.{_≡_}
 use lib.ListN.{length, getD}
 use Rattle.kinds.specs.declared.Kind.{Kind}
 use Rattle.kinds.specs.Kinds.{sizeOf}
+use Rattle.programs.specs.declared.Player.{Player}
 use Rattle.programs.specs.Memory.{programCount, lastProgram, editPlace}
 use Rattle.programs.specs.Held.{Held, One, Edit, bytesIn}
 use Rattle.controls.specs.Table.{rowOf}
@@ -16,15 +17,15 @@ use Rattle.sysex.specs.declared.Answer.the-variants.{Stored}
 use Rattle.carrying.specs.Carrying.{Outcome}
 use Rattle.podbox.specs.Messages.{isHeard}
 
--- every program stays, and so does every byte of memory outside the edit buffer, and every mark: "A controller leaves the mark as it was."
-pub record EditAlone (kind : Kind) (player : ℕ) (held after : Held) : Type 0 where
+-- every program stays, and so does every byte of memory outside the player's edit buffer, the other player's too, and every mark: "A controller leaves the mark as it was."
+pub record EditAlone (kind : Kind) (player : Player) (held after : Held) : Type 0 where
   pub programs-stay : (p : ℕ) → p ≤ lastProgram → bytesIn kind player (One p) after ≡ bytesIn kind player (One p) held
   pub else-stays : (k : ℕ) → (k < editPlace kind player) ⊎ (editPlace kind player + sizeOf kind ≤ k) → getD (after .memory) k 0 ≡ getD (held .memory) k 0
   pub length-stays : length (after .memory) ≡ length (held .memory)
   pub marks-stay : after .marks ≡ held .marks
 
 -- 3 "controller applied": "its bytes of the edit buffer"
-pub record Moved (kind : Kind) (player controller value : ℕ) (held : Held) (o : Outcome) : Type 0 where
+pub record Moved (kind : Kind) (player : Player) (controller value : ℕ) (held : Held) (o : Outcome) : Type 0 where
   pub none-sent : o .sent ≡ []
   pub applied : bytesIn kind player Edit (o .held) ≡ storeRow (rowOf kind controller) value (bytesIn kind player Edit held)
   pub alone : EditAlone kind player held (o .held)
@@ -37,7 +38,7 @@ pub record IsChange (settings : Settings) (status number : ℕ) : Type 0 where
   pub to-36 : number ≤ programCount
 
 -- "copies program 0 to 35 into the edit buffer and returns 1"
-pub record Recalled (kind : Kind) (player number : ℕ) (held : Held) (o : Outcome) : Type 0 where
+pub record Recalled (kind : Kind) (player : Player) (number : ℕ) (held : Held) (o : Outcome) : Type 0 where
   pub stored : o .answer ≡ Stored
   pub none-sent : o .sent ≡ []
   pub copied : bytesIn kind player Edit (o .held) ≡ bytesIn kind player (One (number - 1)) held

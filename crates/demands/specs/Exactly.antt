@@ -7,6 +7,7 @@ use mathlib.Core.Logic.{_⊎_, _↔_}
 use mathlib.Core.Path.{_≡_}
 use Rattle.ground.specs.Calls.{outcome}
 use Rattle.kinds.specs.declared.Kind.{Kind}
+use Rattle.programs.specs.declared.Player.{Player}
 use Rattle.programs.specs.Held.{Held, Target, storeIn}
 use Rattle.sysex.specs.declared.Settings.{Settings}
 use Rattle.sysex.specs.declared.Answer.the-variants.{Stored, Sent}
@@ -16,7 +17,7 @@ use Rattle.carrying.specs.Carrying.{Outcome, sending, answering}
 
 -- `Body` says which bodies the message has: of one that is handed over whole, what stands before its F7; of one that F7 finishes on a socket, what
 -- stands in the receive buffer
-pub record Exactly (kind : Kind) (settings : Settings) (player : ℕ) (held : Held) (Body : List ℕ → Type 0) (o : Outcome) : Type 0 where
+pub record Exactly (kind : Kind) (settings : Settings) (player : Player) (held : Held) (Body : List ℕ → Type 0) (o : Outcome) : Type 0 where
   pub stored : (o .answer ≡ Stored) ↔ ((body : List ℕ) × Body body × (t : Target) × (long : Bool) × (bytes : List ℕ) × IsDump kind t long bytes body)
   pub named : (body : List ℕ) → Body body → (t : Target) (long : Bool) (bytes : List ℕ) → IsDump kind t long bytes body
       → o ≡ outcome Stored (storeIn kind player t long bytes held) []

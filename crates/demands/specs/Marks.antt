@@ -7,6 +7,7 @@ use mathlib.Core.Path.{_≡_}
 use lib.ListN.{length, getD}
 use Rattle.kinds.specs.declared.Kind.{Kind}
 use Rattle.kinds.specs.Kinds.{sizeOf, hasSpare, headerOf}
+use Rattle.programs.specs.declared.Player.{Player}
 use Rattle.programs.specs.Memory.{partOf}
 use Rattle.programs.specs.Held.{Held, Target, placeFor, countFor, slotFor, slotsFor}
 use Rattle.sockets.specs.Framer.{Message, SysEx, TooLong, Channel}
@@ -21,7 +22,7 @@ abbrev pub broughtFor : Kind → Bool → ℕ → List ℕ → List ℕ
 broughtFor kind long i bytes = cond long (partOf (i * sizeOf kind) (sizeOf kind) bytes) (partOf (i * (sizeOf kind - 1)) (sizeOf kind - 1) bytes ++ (0 ∷ []))
 
 -- what a dump leaves: each program that it names, its mark, and all else as it was; what lies behind the box's own memory and marks too
-pub record DumpLeaves (kind : Kind) (player : ℕ) (t : Target) (long : Bool) (bytes : List ℕ) (held after : Held) : Type 0 where
+pub record DumpLeaves (kind : Kind) (player : Player) (t : Target) (long : Bool) (bytes : List ℕ) (held after : Held) : Type 0 where
   pub each : (i : ℕ) → i < slotsFor t → partOf (placeFor kind player t + i * sizeOf kind) (sizeOf kind) (after .memory) ≡ broughtFor kind long i bytes
   pub else-stays : (k : ℕ) → (k < placeFor kind player t) ⊎ (placeFor kind player t + countFor kind t ≤ k) → getD (after .memory) k 0 ≡ getD (held .memory) k 0
   pub length-stays : length (after .memory) ≡ length (held .memory)
@@ -51,5 +52,5 @@ MessageMoves kind (Channel status first second) = ⊥
 
 abbrev pub FinishMoves : Kind → Finish Delivered → Type 0
 FinishMoves kind (FromSocket s m) = MessageMoves kind m
-FinishMoves kind (FromDirect (FromPanel message)) = (body : List ℕ) × (message ≡ ended body) × MovesMarks kind body
-FinishMoves kind (FromDirect (FromList m)) = MessageMoves kind m
+FinishMoves kind (FromDirect (FromPanel s message)) = (body : List ℕ) × (message ≡ ended body) × MovesMarks kind body
+FinishMoves kind (FromDirect (FromList s m)) = MessageMoves kind m

@@ -8,6 +8,7 @@ use lib.ListN.{length, getD, drop}
 use Rattle.ground.specs.Lists.{written}
 use Rattle.ground.specs.Calls.{left}
 use Rattle.kinds.specs.declared.Kind.{Kind}
+use Rattle.programs.specs.declared.Player.{Player}
 use Rattle.programs.specs.Held.{Held}
 use Rattle.controls.specs.Meaning.{exists}
 use Rattle.sockets.specs.Calls.{Socket, Call, Byte, Direct, FromSocket}
@@ -18,10 +19,10 @@ use Rattle.sysex.specs.Numbers.{answerNumber}
 use Rattle.carrying.specs.Carrying.{Left}
 use Rattle.podbox.specs.declared.Move.{Move}
 use Rattle.podbox.specs.Moves.{mostMoves, moveMessage}
-use Rattle.podbox.specs.Box.{Given, Whole, Moves, panel, noted, boxRules}
+use Rattle.podbox.specs.Box.{Given, Whole, Moves, noted, boxRules}
 use Rattle.demands.specs.EditAlone.{EditAlone}
 
--- "the moves sent one by one on our channel": a message of a socket for each
+-- "the moves sent one by one on our channel": a message of a socket, the player's, for each
 abbrev pub sentOn : (kindNumber : ℕ) (settings : Settings) → Socket → List Move → FinishesOf (boxRules kindNumber settings)
 sentOn kindNumber settings s [] = []
 sentOn kindNumber settings s (move ∷ moves) = FromSocket s (moveMessage settings move) ∷ sentOn kindNumber settings s moves
@@ -52,12 +53,12 @@ byBytes (number ∷ numbers) = 0 ∷ 0 ∷ number ∷ byBytes numbers
 abbrev pub FewMoves : List (Call Given) → Type 0
 FewMoves [] = Unit {0}
 FewMoves (Byte s b ∷ calls) = FewMoves calls
-FewMoves (Direct (Whole message) ∷ calls) = FewMoves calls
-FewMoves (Direct (Moves moves) ∷ calls) = (length moves ≤ mostMoves) × FewMoves calls
+FewMoves (Direct (Whole playerNumber message) ∷ calls) = FewMoves calls
+FewMoves (Direct (Moves playerNumber moves) ∷ calls) = (length moves ≤ mostMoves) × FewMoves calls
 
 -- the numbers that the call returns
 abbrev pub ListNumber : ℕ → Type 0
-ListNumber number = (number ≡ 0) ⊎ ((number ≡ 30) ⊎ ((32 ≤ number) × (number ≤ 34)))
+ListNumber number = (number ≡ 0) ⊎ ((30 ≤ number) × (number ≤ 34))
 
 -- what is noted for a move: 3, 17, 18 or 19; "a controller above 127 is 17, a value above 127 is 18, in the usual order"
 pub record Noted (kind : Kind) (move : Move) (number : ℕ) : Type 0 where
@@ -67,12 +68,12 @@ pub record Noted (kind : Kind) (move : Move) (number : ℕ) : Type 0 where
   pub value-above-127 : exists kind (move .controller) ≡ true → 127 < move .value → number ≡ 18
 
 -- what holds of every list, whatever is lent
-pub record AnsweredList (kind : Kind) (moves : List Move) (held : Held) (numbers : List ℕ) (l : Left) : Type 0 where
+pub record AnsweredList (kind : Kind) (player : Player) (moves : List Move) (held : Held) (numbers : List ℕ) (l : Left) : Type 0 where
   pub numbered : ListNumber (answerNumber (l .answer))
-  -- "nothing changes on any of these four"
+  -- "nothing changes on any of these four", nor on 31
   pub turned-away : 30 ≤ answerNumber (l .answer) → (l .held ≡ held) × (l .reply ≡ numbers)
   -- number i is that of move i
   pub each : answerNumber (l .answer) ≡ 0 → (i : ℕ) (none : Move) → i < length moves → Noted kind (getD moves i none) (getD (l .reply) i 0)
   -- numbers behind the list keep their bytes
   pub behind : drop (length moves) (l .reply) ≡ drop (length moves) numbers
-  pub alone : EditAlone kind panel held (l .held)
+  pub alone : EditAlone kind player held (l .held)
