@@ -4,7 +4,7 @@ use mathlib.Core.Bool.{Bool, true, false, cond}
 use mathlib.Core.Path.{_≡_, refl, sym, subst, ap, _∙_}
 use native.Mathlib.Omega.{arith}
 use native.Mathlib.Nat.{mul-le-mul-right}
-use lib.Dec.{eqb}
+use lib.Dec.{eqb, leb}
 use lib.ListN.{length}
 use borrow.Author.Tests.{leb-true}
 use Rattle.ground.specs.Tests.{tested, AllHold}
@@ -52,12 +52,13 @@ module _ (kindNumber program own player programs buffer : ℕ) where
       → programPlace (kindOf kindNumber) program + sizeOf (kindOf kindNumber) ≤ programs
   shared-inside all shared =
       let kind = kindOf kindNumber in
-      let low = leb-true program lastProgram (rw shared at (all .1 .1 .1 .1 .0)) in
-      let long = leb-true (allSize kind) programs (all .1 .0) in
+      let high : cond (eqb own 0) (leb program lastProgram) true ≡ true = search all in
+      let low = leb-true program lastProgram (rw shared at high) in
+      let long = leb-true (allSize kind) programs (search all) in
       omega (arith, mul-le-mul-right (sizeOf kind) low)
 
   pub own-inside : AllHold (screenTests kindNumber program own player programs buffer) → sizeOf (kindOf kindNumber) ≤ buffer
-  own-inside all = leb-true (sizeOf (kindOf kindNumber)) buffer (all .1 .1 .0)
+  own-inside all = leb-true (sizeOf (kindOf kindNumber)) buffer (search all)
 
 -- the same, by the choice
 abbrev Lies : (size programs buffer : ℕ) → Choice → Type 0
