@@ -25,7 +25,6 @@ use Rattle.programs.proofs.Spares.{with-at, without-at}
 use Rattle.programs.proofs.Slots.{count-slots, sent-slots, received-length, out-length, marked-length}
 use Rattle.sockets.specs.Framer.{Message, SysEx, TooLong, Channel}
 use Rattle.sockets.specs.Calls.{Finish, FromSocket, FromDirect}
-use Rattle.sockets.specs.Promise.{socketNumber}
 use Rattle.sysex.specs.declared.Settings.{Settings}
 use Rattle.sysex.specs.declared.Check.{Check}
 use Rattle.sysex.specs.declared.Order.{Order}

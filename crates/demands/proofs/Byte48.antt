@@ -24,17 +24,18 @@ use Rattle.framing.specs.Standing.{holding}
 use Rattle.framing.proofs.Stands.{stands-sound}
 use Rattle.sockets.specs.Framer.{Channel}
 use Rattle.sockets.specs.Box.{took}
-use Rattle.sockets.specs.Promise.{stepDoes}
+use Rattle.sockets.specs.Calls.{Socket}
+use Rattle.sockets.specs.Promise.{socketNumber, stepDoes}
 use Rattle.sysex.specs.declared.Settings.{Settings}
 use Rattle.sysex.specs.Forms.{longest}
 use Rattle.sysex.specs.Numbers.{refused}
 use Rattle.carrying.specs.Carrying.{refusing}
 use Rattle.podbox.specs.Settings.{isValid, areMarks}
 use Rattle.podbox.specs.Messages.{isHeard, isController, channelDoes, messageDoes}
-use Rattle.podbox.specs.Box.{limit, takeOf}
+use Rattle.podbox.specs.Box.{limit, socketPlayer, takeOf}
 use Rattle.podbox.proofs.Taking.{sender}
 use Rattle.demands.specs.Byte48.{selector}
-use Rattle.demands.proofs.Passed.{take-passed}
+use Rattle.demands.proofs.Passed.{socket-known, take-passed}
 
 -- on any channel that is heard
 module _ (settings : Settings) (status : ℕ) (heard : isHeard settings status ≡ true) (is-controller : isController status ≡ true)
@@ -51,6 +52,10 @@ module _ (settings : Settings) (status : ℕ) (heard : isHeard settings status �
       rw (heard, is-controller, rotary-under-flanger controller value edit rotary h (omega arith) (rw at f))
       (ap (λ (memory : List ℕ). outcome (refused 19) (heldOf memory (held .marks)) []) (put-same place (sizeOf Pod) (held .memory)))
 
+-- the last byte of the move, on either socket, of the player's own edit buffer, whatever stands in the buffers: 19, and all else is as it was
+module _ (settings : Settings) (status : ℕ) (heard : isHeard settings status ≡ true) (is-controller : isController status ≡ true)
+    (s : Socket) (held : Held) (m : memorySize Pod ≤ length (held .memory))
+    (f : Flanger (selector (socketPlayer s) held)) (controller value : ℕ) (rotary : RotaryMove controller) (h : value ≤ 127) where
   upper : status / 16 ≡ 0xB
   unfolding isController
   upper = eqb-true (status / 16) 0xB is-controller
@@ -62,19 +67,18 @@ module _ (settings : Settings) (status : ℕ) (heard : isHeard settings status �
   data-byte : controller ≤ 0x7F
   data-byte = ⊎-elim (λ e. omega arith) (λ m. ⊎-elim (λ e. omega arith) (λ e. omega arith) m) rotary
 
-  -- the last byte of the move, on either socket, whatever stands in the buffers: 19, and all else is as it was
-  pub rotary-on-socket : (receive reply : List ℕ) → isValid settings ≡ true → markCount ≤ length (held .marks) → areMarks (held .marks) ≡ true → player ≤ 1 → longest Pod ≤ length receive → longest Pod ≤ length reply
-      → takeOf (numberOf Pod) settings player (holdingOf status controller) value held receive reply ≡ took (underOf status) (refused 19) held receive reply
+  pub rotary-on-socket : (receive reply : List ℕ) → isValid settings ≡ true → markCount ≤ length (held .marks) → areMarks (held .marks) ≡ true → longest Pod ≤ length receive → longest Pod ≤ length reply
+      → takeOf (numberOf Pod) settings (socketNumber s) (holdingOf status controller) value held receive reply ≡ took (underOf status) (refused 19) held receive reply
   unfolding stepDoes stepOf isKind kindOf numberOf
-  rotary-on-socket receive reply v k marked s x r =
+  rotary-on-socket receive reply v k marked x r =
       let is-sound = stands-sound (limit Pod) (holding {s = status} {d = controller} (omega (arith, upper)) (omega (arith, upper)) takes-two data-byte) in
-      take-passed (numberOf Pod) settings player (holdingOf status controller) value held receive reply
-      (refl, (le-leb _ _ m, (le-leb _ _ k, (le-leb _ _ x, (le-leb _ _ r, (le-leb player 1 s, (is-sound, (v, (marked, tt)))))))))
+      take-passed (numberOf Pod) settings (socketNumber s) (holdingOf status controller) value held receive reply
+      (refl, (le-leb _ _ m, (le-leb _ _ k, (le-leb _ _ x, (le-leb _ _ r, (socket-known s, (is-sound, (v, (marked, tt)))))))))
       ∙ (rw (
         lt-leb 0xF8 value (omega arith),
         lt-ltb value 0x80 (omega arith),
         ne-eqb status 0 (λ e. omega (arith, upper)),
         takes-two,
-        sender player s,
-        rotary-refused,
+        sender (socketNumber s),
+        rotary-refused settings status heard is-controller (socketPlayer s) held m f controller value rotary h,
       ))

@@ -16,6 +16,7 @@ use Rattle.programs.specs.Memory.{programCount, memorySize, putPart}
 use Rattle.programs.specs.Held.{Held, heldOf, One, Edit, placeFor, countFor, bytesIn, received, bytesOut}
 use Rattle.programs.proofs.Parts.{put-length, put-same, edit-length}
 use Rattle.programs.proofs.Slots.{received-length, out-most}
+use Rattle.programs.proofs.Players.{edit-inside}
 use Rattle.controls.specs.Table.{rowOf}
 use Rattle.controls.specs.Applying.{Changed, storeRow}
 use Rattle.controls.proofs.Controllers.{apply-cases, store-length}
@@ -61,6 +62,7 @@ module _ (kind : Kind) (settings : Settings) (player : Player) (held : Held) (m 
   controller-tame : (controller value : ℕ) → Tame kind held (controllerDoes kind player controller value held)
   controller-tame controller value =
       let place = placeFor kind player Edit in
+      let within = edit-inside kind player .1 in
       let edit = bytesIn kind player Edit held in
       let whole = edit-length kind player held m in
       let kept = put-same place (sizeOf kind) (held .memory) in
@@ -73,6 +75,7 @@ module _ (kind : Kind) (settings : Settings) (player : Player) (held : Held) (m 
   change-tame : (number : ℕ) → (1 ≤ number) × (number ≤ programCount) → Tame kind held (programChangeDoes kind player number held)
   change-tame number n =
       let inside = program-inside (sizeOf kind) (number - 1) (omega arith) in
+      let within = edit-inside kind player .1 in
       stores _ (put-length (placeFor kind player Edit) (sizeOf kind) (bytesIn kind player (One (number - 1)) held) (held .memory) (omega arith) (simp (length-take, length-drop) (omega arith)))
 
   pub message-tame : (message : Message) → Tame kind held (messageDoes kind settings player held message)

@@ -14,6 +14,7 @@ use Rattle.programs.specs.declared.Player.{Player}
 use Rattle.programs.specs.Memory.{memorySize, programPlace, editPlace}
 use Rattle.programs.specs.Held.{Held, Edit, bytesIn, putIn}
 use Rattle.programs.proofs.Parts.{part-put, part-before, put-before, put-behind, put-length, edit-length}
+use Rattle.programs.proofs.Players.{edit-inside}
 use Rattle.controls.specs.Table.{rowOf}
 use Rattle.controls.specs.Applying.{Changed, storeRow}
 use Rattle.controls.proofs.Controllers.{apply-cases, store-length}
@@ -39,12 +40,13 @@ alone-more kind player a b c e f = record {
 module _ (kind : Kind) (player : Player) (held : Held) (m : memorySize kind ≤ length (held .memory)) where
   module _ (bytes : List ℕ) (e : length bytes ≡ sizeOf kind) where
     pub edit-put : bytesIn kind player Edit (putIn kind player Edit bytes held) ≡ bytes
-    edit-put = part-put (editPlace kind player) (sizeOf kind) bytes (held .memory) (omega arith) e
+    edit-put = part-put (editPlace kind player) (sizeOf kind) bytes (held .memory) (omega (arith, edit-inside kind player)) e
 
     pub edit-alone : EditAlone kind player held (putIn kind player Edit bytes held)
     edit-alone =
         let place = editPlace kind player in
         let size = sizeOf kind in
+        let within = edit-inside kind player in
         record {
           programs-stay = λ p h.
               let inside = program-inside size p h in

@@ -34,7 +34,7 @@ use Rattle.framing.specs.Bytes.{stepOf}
 use Rattle.sockets.specs.Framer.{Message, SysEx, TooLong, Channel, Happening, Nothing, Cut, Finished}
 use Rattle.sockets.specs.Calls.{Socket, handing}
 use Rattle.sockets.specs.Box.{saidsOf, heldAfter, happeningDoes}
-use Rattle.sockets.specs.Promise.{happeningOf, socketNumber, socketOf, stepDoes, byteOf, directOf}
+use Rattle.sockets.specs.Promise.{happeningOf, socketOf, stepDoes, byteOf, directOf}
 use Rattle.sysex.specs.declared.Settings.{Settings}
 use Rattle.sysex.specs.declared.Check.{Check}
 use Rattle.sysex.specs.declared.Order.{Order}
@@ -47,7 +47,7 @@ use Rattle.podbox.specs.Messages.{isController, isProgramChange, channelTests, 
 use Rattle.podbox.specs.declared.Move.{Move}
 use Rattle.podbox.specs.Moves.{moveMessage}
 use Rattle.podbox.specs.Whole.{isFramed, bodyOf, messageTests, messageOrder, handedDoes}
-use Rattle.podbox.specs.Box.{Moves, limit, handsOf, panel, boxRules, takeOf, wholeOf, movesOf}
+use Rattle.podbox.specs.Box.{Moves, limit, handsOf, socketPlayer, boxRules, takeOf, wholeOf, movesOf}
 use Rattle.demands.specs.EitherUnit.{isApart, isIdentityRequest, Alike, AlikeAt, AlikeMoves}
 
 -- A message is judged the same, and so `why` says the same of it, whatever it is.
@@ -239,7 +239,7 @@ module _ (settings : Settings) where
   unfolding kindOf numberOf
   happening-same held s Nothing alike = refl
   happening-same held s Cut alike = refl
-  happening-same held s (Finished m) alike = message-same (socketNumber s) held m alike
+  happening-same held s (Finished m) alike = message-same (socketPlayer s) held m alike
 
   -- so that a byte call leaves the same, in every buffer, on every socket and at every receiver, whatever is lent,
   pub take-same : (socket : ℕ) (receiver : Receiver) (byte : ℕ) (held : Held) (receive reply : List ℕ)
@@ -249,24 +249,25 @@ module _ (settings : Settings) where
   take-same socket receiver byte held receive reply alike = rw (happening-same held (socketOf socket) _ alike)
 
   -- and so does a message that is handed over whole.
-  pub whole-same : (message : List ℕ) (held : Held) (reply : List ℕ) → isIdentityRequest message ≡ false
-      → wholeOf (numberOf PodPro) settings message held reply ≡ wholeOf (numberOf Pod) settings message held reply
+  pub whole-same : (playerNumber : ℕ) (message : List ℕ) (held : Held) (reply : List ℕ) → isIdentityRequest message ≡ false
+      → wholeOf (numberOf PodPro) settings playerNumber message held reply ≡ wholeOf (numberOf Pod) settings playerNumber message held reply
   unfolding directOf isKind kindOf numberOf sizeOf
-  whole-same message held reply other = rw (handed-same settings panel held message other)
+  whole-same playerNumber message held reply other = rw (handed-same settings (socketPlayer (socketOf playerNumber)) held message other)
 
   -- A list of moves none of which is apart:
-  list-same : (moves : List Move) (held : Held) → AlikeMoves moves
+  list-same : (playerNumber : ℕ) (moves : List Move) (held : Held) → AlikeMoves moves
       → (let fs = handing (handsOf settings (Moves playerNumber moves)) in
       (saidsOf (boxRules (numberOf PodPro) settings) held fs ≡ saidsOf (boxRules (numberOf Pod) settings) held fs)
       × (heldAfter (boxRules (numberOf PodPro) settings) held fs ≡ heldAfter (boxRules (numberOf Pod) settings) held fs))
   unfolding kindOf numberOf
-  list-same [] held alike = (refl, refl)
-  list-same (move ∷ moves) held alike =
-      let same = message-same panel held (moveMessage settings move) (λ _. alike .0) in
-      let rest = list-same moves (messageDoes Pod settings panel held (moveMessage settings move) .held) (alike .1) in
+  list-same playerNumber [] held alike = (refl, refl)
+  list-same playerNumber (move ∷ moves) held alike =
+      let player = socketPlayer (socketOf playerNumber) in
+      let same = message-same player held (moveMessage settings move) (λ _. alike .0) in
+      let rest = list-same playerNumber moves (messageDoes Pod settings player held (moveMessage settings move) .held) (alike .1) in
       (rw (same, rest .0), ap (λ (o : Outcome). heldAfter (boxRules (numberOf PodPro) settings) (o .held) (handing (handsOf settings (Moves playerNumber moves)))) same ∙ rest .1)
 
-  pub moves-same : (moves : List Move) (held : Held) (numbers : List ℕ) → AlikeMoves moves
-      → movesOf (numberOf PodPro) settings moves held numbers ≡ movesOf (numberOf Pod) settings moves held numbers
+  pub moves-same : (playerNumber : ℕ) (moves : List Move) (held : Held) (numbers : List ℕ) → AlikeMoves moves
+      → movesOf (numberOf PodPro) settings playerNumber moves held numbers ≡ movesOf (numberOf Pod) settings playerNumber moves held numbers
   unfolding directOf isKind kindOf numberOf sizeOf
-  moves-same moves held numbers alike = let same = list-same moves held alike in rw (same .0, same .1)
+  moves-same playerNumber moves held numbers alike = let same = list-same playerNumber moves held alike in rw (same .0, same .1)

@@ -7,7 +7,6 @@ use mathlib.Core.Logic.{_⊎_, inl, inr, ⊎-elim}
 use mathlib.Core.Path.{_≡_, refl, sym, ap, subst, _∙_}
 use native.Mathlib.Omega.{arith}
 use lib.Dec.{ltb}
-use borrow.Author.Tests.{leb-true}
 use lib.ListN.{length, drop, take}
 use Rattle.ground.specs.Lists.{written}
 use Rattle.ground.specs.Tests.{AllHold}
@@ -150,11 +149,11 @@ whole-call kindNumber settings playerNumber message held reply all = (whole-pass
 -- and the byte's, on a socket in any sound state, that finishes a SysEx
 pub byte-call : (kindNumber : ℕ) (settings : Settings) (socket : ℕ) (r : Receiver) (byte : ℕ) (held : Held) (receive reply : List ℕ) (count : ℕ)
     → AllHold (takeTests kindNumber settings socket (lent r held receive reply)) → stepOf (limit (kindOf kindNumber)) r byte .event ≡ event.SysEx count
-    → (let o = bodyDoes (kindOf kindNumber) settings socket (take count receive) held in
+    → (let o = bodyDoes (kindOf kindNumber) settings (playerOf socket) (take count receive) held in
     (takeOf kindNumber settings socket r byte held receive reply ≡ took (stepOf (limit (kindOf kindNumber)) r byte .receiver) (o .answer) (o .held) receive (written (o .sent) reply))
-    × Exactly (kindOf kindNumber) settings socket held (λ body. body ≡ take count receive) o)
+    × Exactly (kindOf kindNumber) settings (playerOf socket) held (λ body. body ≡ take count receive) o)
 unfolding stepDoes messageDoes
 byte-call kindNumber settings socket r byte held receive reply count all e = (
-  take-passed kindNumber settings socket r byte held receive reply all ∙ (rw (e, sender socket (leb-true socket 1 (all .1 .1 .1 .1 .1 .0)))),
-  body-exactly (kindOf kindNumber) settings socket held (take count receive),
+  take-passed kindNumber settings socket r byte held receive reply all ∙ (rw (e, sender socket)),
+  body-exactly (kindOf kindNumber) settings (playerOf socket) held (take count receive),
 )

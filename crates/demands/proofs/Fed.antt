@@ -15,7 +15,6 @@ use Rattle.programs.specs.Held.{Held}
 use Rattle.sockets.specs.Framer.{closed}
 use Rattle.sockets.specs.Calls.{Socket, feed}
 use Rattle.sockets.specs.Box.{SaidsOf, taken, saidOf}
-use Rattle.sockets.specs.Promise.{socketNumber}
 use Rattle.sockets.specs.History.{WorldOf, History}
 use Rattle.sockets.specs.Demand.{Fresh}
 use Rattle.sockets.proofs.Fed.{framed-fed}
@@ -24,7 +23,7 @@ use Rattle.sysex.specs.Forms.{longest}
 use Rattle.carrying.specs.Carrying.{refusing}
 use Rattle.podbox.specs.Messages.{messageDoes}
 use Rattle.podbox.specs.Whole.{isFramed, bodyOf, handedDoes}
-use Rattle.podbox.specs.Box.{limit, boxRules}
+use Rattle.podbox.specs.Box.{limit, socketPlayer, boxRules}
 use Rattle.podbox.proofs.Frames.{frame, frame-body, frame-framed, framed-is}
 use Rattle.podbox.proofs.Orders.{handed-does}
 use Rattle.demands.proofs.Sockets.{lawful}
@@ -56,12 +55,12 @@ module _ (kindNumber : ℕ) (settings : Settings) (w v : WorldOf (boxRules kindN
   -- Whole equals byte by byte, for every message F0 .. F7 with nothing above 0x7F between, of any length: each byte before F7 is
   -- taken, and F7 gets the answer, leaves the memory and sends the bytes of the same message handed over whole.
   pub whole-fed : (message : List ℕ) → isFramed message ≡ true → Fresh (boxRules kindNumber settings) w → History (boxRules kindNumber settings) w (feed s message) v saids
-      → (let o = handedDoes (kindOf kindNumber) settings (socketNumber s) message (w .held) in
+      → (let o = handedDoes (kindOf kindNumber) settings (socketPlayer s) message (w .held) in
       (v .held ≡ o .held) × (saids ≡ taken (boxRules kindNumber settings) (bodyOf message) ++ (saidOf o ∷ [])))
   whole-fed message framed new history =
       let f = framed-is message framed in
       let rest = f .0 in
       let history′ = rw (f .1) at history in
-      let d = rw (closed-does (kindOf kindNumber) settings (socketNumber s) rest (w .held) (f .2)) at (framed-fed (boxRules kindNumber settings) w v s rest saids (lawful kindNumber settings) new (f .2) history′) in
-      let last = saidOf (handedDoes (kindOf kindNumber) settings (socketNumber s) (frame rest) (w .held)) in
+      let d = rw (closed-does (kindOf kindNumber) settings (socketPlayer s) rest (w .held) (f .2)) at (framed-fed (boxRules kindNumber settings) w v s rest saids (lawful kindNumber settings) new (f .2) history′) in
+      let last = saidOf (handedDoes (kindOf kindNumber) settings (socketPlayer s) (frame rest) (w .held)) in
       rw (f .1) (d .0, d .1 ∙ ap (λ (l : List ℕ). taken (boxRules kindNumber settings) l ++ (last ∷ [])) (sym (frame-body rest)))

@@ -20,6 +20,7 @@ use Rattle.programs.specs.declared.Player.{Player}
 use Rattle.programs.specs.Memory.{memorySize}
 use Rattle.programs.specs.Held.{Held, Target, One, Edit, All, placeFor, countFor}
 use Rattle.programs.proofs.Slots.{sent-most}
+use Rattle.programs.proofs.Players.{edit-inside}
 use Rattle.sysex.specs.declared.Settings.{Settings}
 use Rattle.sysex.specs.declared.Order.the-variants.{Refused}
 use Rattle.sysex.specs.Forms.{typeFor, dataPlace, longest, requestBody, dumpBody, ended}
@@ -57,7 +58,7 @@ dump-data kind All bytes = join-split bytes
 -- what is named lies in memory
 pub named-inside : (kind : Kind) (player : Player) (t : Target) → There t → placeFor kind player t + countFor kind t ≤ memorySize kind
 named-inside kind player (One p) h = let inside = program-inside (sizeOf kind) p h in omega arith
-named-inside kind player Edit h = omega arith
+named-inside kind player Edit h = edit-inside kind player .1
 named-inside kind player All h = omega arith
 
 -- a device byte is a data byte

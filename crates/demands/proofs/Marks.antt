@@ -17,6 +17,7 @@ use Rattle.programs.specs.Memory.{markCount, putPart}
 use Rattle.programs.specs.Held.{Held, Target, One, Edit, All, slotFor, slotsFor, marked}
 use Rattle.programs.proofs.Parts.{put-length, put-append}
 use Rattle.programs.proofs.Slots.{marked-length}
+use Rattle.programs.proofs.Players.{slot-inside}
 use Rattle.sockets.specs.Framer.{Message, SysEx, TooLong, Channel}
 use Rattle.sysex.specs.declared.Settings.{Settings}
 use Rattle.sysex.specs.declared.Order.{Order}
@@ -33,7 +34,7 @@ use Rattle.demands.proofs.Forms.{store-does, send-does, message-meant}
 -- what is named has its marks among the box's own
 pub slots-named : (player : Player) (t : Target) → There t → slotFor player t + slotsFor t ≤ markCount
 slots-named player (One p) h = omega arith
-slots-named player Edit h = omega arith
+slots-named player Edit h = slot-inside player .1
 slots-named player All h = omega arith
 
 pub data Marking (kind : Kind) (player : Player) (marks : List ℕ) : List ℕ → Type 0 where

@@ -1,19 +1,21 @@
 -- What a call does where none of its tests fails, and that a test that fails is one of 30 to 34.
 use Prim.Native.Nat.{ℕ, _≤_}
 use mathlib.Core.List.{List}
-use mathlib.Core.Path.{_≡_, sym, ap, subst, _∙_}
+use mathlib.Core.Bool.{true}
+use mathlib.Core.Path.{_≡_, refl, sym, ap, subst, _∙_}
 use native.Mathlib.Omega.{arith}
 use Rattle.ground.specs.Tests.{AllHold}
 use Rattle.ground.specs.Calls.{left, leaves}
 use Rattle.ground.proofs.InOrder.{first-named, tested-cases, tested-passed}
 use Rattle.kinds.specs.Kinds.{kindOf}
 use Rattle.programs.specs.declared.Player.{Player}
-use Rattle.programs.specs.Memory.{playerOf}
+use Rattle.programs.specs.Memory.{isPlayer, playerOf}
 use Rattle.programs.specs.Held.{Held}
 use Rattle.framing.specs.declared.Receiver.{Receiver}
 use Rattle.framing.specs.Bytes.{stepOf}
 use Rattle.sockets.specs.Box.{lent, took, directDoes}
-use Rattle.sockets.specs.Promise.{socketOf, stepDoes, byteOf, directOf}
+use Rattle.sockets.specs.Calls.{Socket, S0, S1}
+use Rattle.sockets.specs.Promise.{socketNumber, socketOf, stepDoes, byteOf, directOf}
 use Rattle.sysex.specs.declared.Settings.{Settings}
 use Rattle.sysex.specs.Numbers.{refused}
 use Rattle.carrying.specs.Carrying.{Left}
@@ -21,6 +23,12 @@ use Rattle.podbox.specs.declared.Move.{Move}
 use Rattle.podbox.specs.Whole.{handedDoes}
 use Rattle.podbox.specs.Box.{Took, limit, socketPlayer, Moves, boxRules, plainAnswer, takeTests, wholeTests, movesTests, takeOf, wholeOf, movesOf}
 use Rattle.podbox.proofs.Taking.{sender}
+
+-- each socket is a player's
+pub socket-known : (s : Socket) → isPlayer (socketNumber s) ≡ true
+unfolding isPlayer
+socket-known S0 = refl
+socket-known S1 = refl
 
 module _ (kindNumber : ℕ) (settings : Settings) (socket : ℕ) (r : Receiver) (byte : ℕ) (held : Held) (receive reply : List ℕ) where
   abbrev stepped : Took

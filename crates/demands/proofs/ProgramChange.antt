@@ -15,7 +15,7 @@ use Rattle.kinds.specs.declared.Kind.{Kind}
 use Rattle.kinds.specs.declared.Kind.the-variants.{Pod, BassPod, PodPro}
 use Rattle.kinds.specs.Kinds.{kindOf, sizeOf, takesProgramChange}
 use Rattle.programs.specs.declared.Player.{Player}
-use Rattle.programs.specs.Memory.{programCount, memorySize}
+use Rattle.programs.specs.Memory.{playerOf, programCount, memorySize}
 use Rattle.programs.specs.Held.{Held, One, Edit, bytesIn}
 use Rattle.controls.specs.declared.Change.{Change}
 use Rattle.controls.specs.declared.Change.the-variants as change
@@ -111,15 +111,15 @@ module _ (settings : Settings) (player : Player) (held : Held) (status number se
 -- On a socket, under its running status, which stays: the one data byte is the program change.
 pub change-on-socket : (kindNumber : ℕ) → kindOf kindNumber ≡ BassPod → (settings : Settings) (socket status number : ℕ) (held : Held) (receive reply : List ℕ)
     → AllHold (takeTests kindNumber settings socket (lent (underOf status) held receive reply)) → IsChange settings status number
-    → (let o = messageDoes BassPod settings socket held (Channel status number 0) in
+    → (let o = messageDoes BassPod settings (playerOf socket) held (Channel status number 0) in
     (takeOf kindNumber settings socket (underOf status) number held receive reply ≡ took (underOf status) Stored (o .held) receive reply)
-    × Recalled BassPod socket number held o)
+    × Recalled BassPod (playerOf socket) number held o)
 unfolding stepDoes stepOf takesOne
 change-on-socket kindNumber bass settings socket status number held receive reply all c =
     let m = leb-true (memorySize (kindOf kindNumber)) (length (held .memory)) (all .1 .0) in
     let upper = c .status-C in
     let few = c .to-36 in
-    let r = recalled settings socket held status number 0 (rw bass at m) c in (
+    let r = recalled settings (playerOf socket) held status number 0 (rw bass at m) c in (
       take-passed kindNumber settings socket (underOf status) number held receive reply all
           ∙ (rw (
             bass,
@@ -128,7 +128,7 @@ change-on-socket kindNumber bass settings socket status number held receive repl
             ne-eqb status 0 (λ e. omega arith),
             le-leb 0xC0 status (omega arith),
             le-leb status 0xDF (omega arith),
-            sender socket (leb-true socket 1 (all .1 .1 .1 .1 .1 .0)),
+            sender socket,
             r .stored,
             r .none-sent,
           )),

@@ -16,6 +16,8 @@ use Rattle.kinds.specs.Kinds.{numberOf}
 use Rattle.kinds.proofs.AnyKind.{kind-numbered}
 use Rattle.programs.specs.Memory.{memorySize, markCount, lastProgram}
 use Rattle.programs.specs.Held.{Held}
+use Rattle.sockets.specs.Calls.{Socket}
+use Rattle.sockets.specs.Promise.{socketNumber}
 use Rattle.sysex.specs.declared.Check.{Check}
 use Rattle.sysex.specs.declared.Order.the-variants.{Refused}
 use Rattle.sysex.specs.Forms.{opcodeOf, typeOf, programOf, request, dump, program, all, bodyLength, wholeLength, shortest, longest, isIdentity, isOurChannel}
@@ -26,9 +28,9 @@ use Rattle.carrying.specs.Carrying.{Left, orderDoes}
 use Rattle.carrying.proofs.Numbered.{does-number}
 use Rattle.podbox.specs.Settings.{isValid, areMarks, freshSettings, freshHeld}
 use Rattle.podbox.specs.Whole.{bodyOf, messageTests, messageOrder, reasonOf}
-use Rattle.podbox.specs.Box.{panel, wholeOf}
+use Rattle.podbox.specs.Box.{socketPlayer, wholeOf}
 use Rattle.demands.specs.Reasons.{Because, fails, passes, Missed, most, ours, known, whole, numbered, versioned, halved, channelled}
-use Rattle.demands.proofs.Passed.{whole-passed}
+use Rattle.demands.proofs.Passed.{socket-known, whole-passed}
 
 because : (kind : Kind) (message : List ℕ) → Because kind message (reasonOf kind message)
 unfolding messageOrder
@@ -45,22 +47,23 @@ fresh-marks : areMarks (replicate markCount 1) ≡ true
 unfolding areMarks
 fresh-marks = refl
 
--- What is said is what is done: a box with these settings does what the reason names, whatever it holds.
-pub reason-done : (kind : Kind) (message : List ℕ) (held : Held) (reply : List ℕ) → memorySize kind ≤ length (held .memory) → markCount ≤ length (held .marks) → areMarks (held .marks) ≡ true → longest kind ≤ length reply
-    → wholeOf (numberOf kind) freshSettings message held reply ≡ leaves (orderDoes kind freshSettings panel (reasonOf kind message) (bodyOf message) held) reply
-reason-done kind message held reply m k marked r =
+-- What is said is what is done: a box with these settings does what the reason names, whatever it holds, for either player.
+pub reason-done : (kind : Kind) (s : Socket) (message : List ℕ) (held : Held) (reply : List ℕ) → memorySize kind ≤ length (held .memory) → markCount ≤ length (held .marks) → areMarks (held .marks) ≡ true → longest kind ≤ length reply
+    → wholeOf (numberOf kind) freshSettings (socketNumber s) message held reply ≡ leaves (orderDoes kind freshSettings (socketPlayer s) (reasonOf kind message) (bodyOf message) held) reply
+reason-done kind s message held reply m k marked r =
     let known = kind-numbered kind in
-    whole-passed (numberOf kind) freshSettings message held reply (known .0, (rw (known .1) (le-leb _ _ m), (le-leb _ _ k, (rw (known .1) (le-leb _ _ r), (fresh-valid, (marked, tt))))))
-    ∙ ap (λ (k : Kind). leaves (orderDoes k freshSettings panel (reasonOf k message) (bodyOf message) held) reply) (known .1)
+    whole-passed (numberOf kind) freshSettings (socketNumber s) message held reply
+    (known .0, (rw (known .1) (le-leb _ _ m), (le-leb _ _ k, (rw (known .1) (le-leb _ _ r), (socket-known s, (fresh-valid, (marked, tt)))))))
+    ∙ ap (λ (k : Kind). leaves (orderDoes k freshSettings (socketPlayer s) (reasonOf k message) (bodyOf message) held) reply) (known .1)
 
 -- "and a fresh box set as the listing program's, handed the message whole, returns that number"
-pub reason-true : (kind : Kind) (message reply : List ℕ) → longest kind ≤ length reply
-    → Because kind message (reasonOf kind message) × (answerNumber (wholeOf (numberOf kind) freshSettings message (freshHeld kind) reply .answer) ≡ orderNumber (reasonOf kind message))
+pub reason-true : (kind : Kind) (s : Socket) (message reply : List ℕ) → longest kind ≤ length reply
+    → Because kind message (reasonOf kind message) × (answerNumber (wholeOf (numberOf kind) freshSettings (socketNumber s) message (freshHeld kind) reply .answer) ≡ orderNumber (reasonOf kind message))
 unfolding freshHeld
-reason-true kind message reply r = (
+reason-true kind s message reply r = (
   because kind message,
-  ap (λ (l : Left). answerNumber (l .answer)) (reason-done kind message (freshHeld kind) reply (omega (arith, length-replicate {A = ℕ} (memorySize kind) 0)) (omega arith) fresh-marks r)
-      ∙ does-number kind freshSettings panel (bodyOf message) (freshHeld kind) (reasonOf kind message),
+  ap (λ (l : Left). answerNumber (l .answer)) (reason-done kind s message (freshHeld kind) reply (omega (arith, length-replicate {A = ℕ} (memorySize kind) 0)) (omega arith) fresh-marks r)
+      ∙ does-number kind freshSettings (socketPlayer s) (bodyOf message) (freshHeld kind) (reasonOf kind message),
 )
 
 -- a program that is not there, and a channel that is not ours

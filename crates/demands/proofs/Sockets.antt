@@ -16,9 +16,9 @@ use Rattle.programs.specs.Memory.{isPlayer, memorySize, markCount}
 use Rattle.programs.specs.Held.{Held}
 use Rattle.framing.proofs.Stands.{fresh-sound}
 use Rattle.sockets.specs.Framer.{Idle}
-use Rattle.sockets.specs.Calls.{Socket, S0, S1, Byte, Direct, Finish, FromSocket, FromDirect, handing}
+use Rattle.sockets.specs.Calls.{Byte, Direct, Finish, FromSocket, FromDirect, handing}
 use Rattle.sockets.specs.Box.{Said, Away, Lawful, LeftOf, CallsOf, FinishesOf, SaidsOf, saidOf, sentOf, saidsOf, turnedAway, directDoes}
-use Rattle.sockets.specs.Promise.{socketNumber, socketOf, directOf}
+use Rattle.sockets.specs.Promise.{socketOf, directOf}
 use Rattle.sockets.specs.History.{WorldOf, backDirect, History, direct, finishedAlong}
 use Rattle.sockets.specs.Demand.{Independent, Fresh, Sound, Roomy, starts, NoEffect}
 use Rattle.sockets.specs.Calm.{calm, calmSaids}
@@ -36,7 +36,8 @@ use Rattle.podbox.specs.Whole.{bodyOf, messageOrder}
 use Rattle.podbox.specs.Moves.{mostMoves, moveMessage}
 use Rattle.podbox.specs.Box.{limit, socketPlayer, Given, Whole, Moves, Delivered, FromPanel, FromList, handsOf, directTests, noted, extentOf, boxRules, wholeOf, movesOf}
 use Rattle.podbox.proofs.Taking.{some-stored}
-use Rattle.demands.specs.Moves.{FewMoves}
+use Rattle.demands.specs.Moves.{Proper}
+use Rattle.demands.proofs.Passed.{socket-known}
 use Rattle.demands.proofs.Tells.{order-tells, message-tells, channel-quiet}
 use Rattle.demands.proofs.Carried.{Tame, stores, sends, applies, refuses, message-tame, handed-tame}
 use Rattle.demands.proofs.Marks.{Marking, marking-length, marking-valid, message-marks, handed-marks}
@@ -53,11 +54,6 @@ tame-taken (stores after e) = refl
 tame-taken (sends bytes short) = refl
 tame-taken (applies after e stays) = refl
 tame-taken (refuses number lo hi) = rw (lt-leb 30 number (omega arith)) refl
-
-inside : (s : Socket) → isPlayer (socketNumber s) ≡ true
-unfolding isPlayer
-inside S0 = refl
-inside S1 = refl
 
 module _ (kindNumber : ℕ) (settings : Settings) where
   kept : (held : Held) (f : Finish Delivered) → memorySize (kindOf kindNumber) ≤ length (held .memory)
@@ -167,30 +163,30 @@ module _ (kindNumber : ℕ) (settings : Settings) where
       carry-marks held (FromDirect (FromPanel s message)) = (_, handed-marks (kindOf kindNumber) settings (socketPlayer s) held message)
       carry-marks held (FromDirect (FromList s m)) = (_, message-marks (kindOf kindNumber) settings (socketPlayer s) held m)
 
-  -- Histories exist: with a kind, valid settings and enough lent, a box with sound receivers turns no call away, if no list is too long.
+  -- Histories exist: with a kind, valid settings and enough lent, a box with sound receivers turns no call away, if no list is too long and every call names a player.
   pub box-lives : isKind kindNumber ≡ true → isValid settings ≡ true → (reply : List ℕ) → longest (kindOf kindNumber) ≤ length reply → (w : WorldOf (boxRules kindNumber settings)) (calls : CallsOf (boxRules kindNumber settings))
-      → FewMoves calls → Sound (boxRules kindNumber settings) w → memorySize (kindOf kindNumber) ≤ length (w .held .memory)
+      → Proper calls → Sound (boxRules kindNumber settings) w → memorySize (kindOf kindNumber) ≤ length (w .held .memory)
       → markCount ≤ length (w .held .marks) → areMarks (w .held .marks) ≡ true → Roomy (boxRules kindNumber settings) w
       → (v : WorldOf (boxRules kindNumber settings)) × (saids : SaidsOf (boxRules kindNumber settings)) × History (boxRules kindNumber settings) w calls v saids
   box-lives known valid reply long w calls few sound m k marked rooms = live (boxRules kindNumber settings) lawful reply Able Fair ready outs w calls sound (m, k, marked) rooms (fair calls few)
     where
       Fair : Given → List ℕ → Type 0
-      Fair (Whole playerNumber message) out = longest (kindOf kindNumber) ≤ length out
-      Fair (Moves playerNumber moves) out = (length moves ≤ mostMoves) × (length moves ≤ length out)
+      Fair (Whole playerNumber message) out = (longest (kindOf kindNumber) ≤ length out) × (isPlayer playerNumber ≡ true)
+      Fair (Moves playerNumber moves) out = (length moves ≤ mostMoves) × (length moves ≤ length out) × (isPlayer playerNumber ≡ true)
 
       outs : Given → List ℕ
       outs (Whole playerNumber message) = reply
       outs (Moves playerNumber moves) = replicate (length moves) 0
 
-      fair : (rest : CallsOf (boxRules kindNumber settings)) → FewMoves rest → AllFair Fair outs rest
+      fair : (rest : CallsOf (boxRules kindNumber settings)) → Proper rest → AllFair Fair outs rest
       fair [] few = tt
       fair (Byte s b ∷ rest) few = fair rest few
-      fair (Direct (Whole playerNumber message) ∷ rest) few = (long, fair rest few)
-      fair (Direct (Moves playerNumber moves) ∷ rest) few = ((few .0, omega (arith, length-replicate {A = ℕ} (length moves) 0)), fair rest (few .1))
+      fair (Direct (Whole playerNumber message) ∷ rest) few = ((long, few .0), fair rest (few .1))
+      fair (Direct (Moves playerNumber moves) ∷ rest) few = ((few .1, omega (arith, length-replicate {A = ℕ} (length moves) 0), few .0), fair rest (few .2))
 
       taken-direct : (x : Given) (out : List ℕ) (held : Held) → Able held → Fair x out → AllHold (directTests kindNumber settings x held out)
-      taken-direct (Whole playerNumber message) out held able h = (known, (le-leb _ _ (able .0), (le-leb _ _ (able .1), (le-leb _ _ h, (valid, (able .2, tt))))))
-      taken-direct (Moves playerNumber moves) out held able h = (le-leb _ _ (h .0), (le-leb _ _ (h .1), (known, (le-leb _ _ (able .0), (valid, tt)))))
+      taken-direct (Whole playerNumber message) out held able h = (known, (le-leb _ _ (able .0), (le-leb _ _ (able .1), (le-leb _ _ (h .0), (h .1, (valid, (able .2, tt)))))))
+      taken-direct (Moves playerNumber moves) out held able h = (le-leb _ _ (h .0), (le-leb _ _ (h .1), (known, (le-leb _ _ (able .0), (h .2, (valid, tt))))))
 
       answered-direct : (held : Held) (x : Given) → Able held → turnedAway (answerNumber (directDoes (boxRules kindNumber settings) held x .answer)) ≡ false
       answered-direct held (Whole playerNumber message) able = tame-taken (handed-tame (kindOf kindNumber) settings (socketPlayer (socketOf playerNumber)) held (able .0) message)
@@ -200,7 +196,7 @@ module _ (kindNumber : ℕ) (settings : Settings) where
       ready = record {
         kept = able-kept;
         taken = λ s held r receive able e b.
-            (known, (le-leb _ _ (able .0), (le-leb _ _ (able .1), (le-leb (longest (kindOf kindNumber)) (length receive) (omega arith), (le-leb _ _ long, (inside s, (e, (valid, (able .2, tt)))))))));
+            (known, (le-leb _ _ (able .0), (le-leb _ _ (able .1), (le-leb (longest (kindOf kindNumber)) (length receive) (omega arith), (le-leb _ _ long, (socket-known s, (e, (valid, (able .2, tt)))))))));
         takenDirect = taken-direct;
         quiet = (refl, refl);
         answered = λ held s m able. tame-taken (message-tame (kindOf kindNumber) settings (socketPlayer s) held (able .0) m);

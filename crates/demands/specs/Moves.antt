@@ -9,6 +9,7 @@ use Rattle.ground.specs.Lists.{written}
 use Rattle.ground.specs.Calls.{left}
 use Rattle.kinds.specs.declared.Kind.{Kind}
 use Rattle.programs.specs.declared.Player.{Player}
+use Rattle.programs.specs.Memory.{isPlayer}
 use Rattle.programs.specs.Held.{Held}
 use Rattle.controls.specs.Meaning.{exists}
 use Rattle.sockets.specs.Calls.{Socket, Call, Byte, Direct, FromSocket}
@@ -49,12 +50,12 @@ abbrev pub byBytes : List ℕ → List ℕ
 byBytes [] = []
 byBytes (number ∷ numbers) = 0 ∷ 0 ∷ number ∷ byBytes numbers
 
--- no list among some calls has more than 256 moves
-abbrev pub FewMoves : List (Call Given) → Type 0
-FewMoves [] = Unit {0}
-FewMoves (Byte s b ∷ calls) = FewMoves calls
-FewMoves (Direct (Whole playerNumber message) ∷ calls) = FewMoves calls
-FewMoves (Direct (Moves playerNumber moves) ∷ calls) = (length moves ≤ mostMoves) × FewMoves calls
+-- each call names a player, and no list has more than 256 moves
+abbrev pub Proper : List (Call Given) → Type 0
+Proper [] = Unit {0}
+Proper (Byte s b ∷ calls) = Proper calls
+Proper (Direct (Whole playerNumber message) ∷ calls) = (isPlayer playerNumber ≡ true) × Proper calls
+Proper (Direct (Moves playerNumber moves) ∷ calls) = (isPlayer playerNumber ≡ true) × (length moves ≤ mostMoves) × Proper calls
 
 -- the numbers that the call returns
 abbrev pub ListNumber : ℕ → Type 0
