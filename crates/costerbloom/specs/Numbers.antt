@@ -6,8 +6,8 @@ use lib.ListN.{length}
 use Rattle.ground.specs.Tests.{tested}
 use Rattle.ground.specs.Calls.{Left, left}
 use Rattle.kinds.specs.declared.Kind.{Kind}
-use Rattle.kinds.specs.Kinds.{kindOf, sizeOf, isKnownModel}
-use Rattle.programs.specs.Memory.{playerOf, editPlace, partOf}
+use Rattle.kinds.specs.Kinds.{kindTest, kindOf, sizeOf, isKnownModel}
+use Rattle.programs.specs.Memory.{playerTest, playerOf, editPlace, partOf}
 use Rattle.programs.specs.Held.{Held}
 use Rattle.controls.specs.declared.Reading.{Reading}
 use Rattle.controls.specs.declared.Reading.the-variants as reading
@@ -21,7 +21,7 @@ use Rattle.sysex.specs.declared.Answer.{Answer}
 use Rattle.sysex.specs.Numbers.{answerNumber, answerLength}
 use Rattle.carrying.specs.Carrying.{memoryTest}
 use Rattle.podbox.specs.declared.Move.{Move}
-use Rattle.podbox.specs.Box.{kindTest, playerTest, takeOf, wholeOf, movesOf}
+use Rattle.podbox.specs.Box.{takeOf, wholeOf, movesOf}
 
 -- the settings, each a number of its own
 abbrev pub settingsOf : ℕ → ℕ → ℕ → ℕ → ℕ → ℕ → Settings

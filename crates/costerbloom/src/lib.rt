@@ -1,10 +1,12 @@
-// The C interface: the box on numbers and byte slices. include/costerbloom.h declares its six functions.
+// The C interface: the box on numbers and byte slices. include/costerbloom.h declares its seven functions.
 mod moves;
 mod numbers;
 
 ghost use mathlib.Core.Path.{_≡_};
 ghost use Rattle.ground.specs.Calls.{left};
 ghost use Rattle.programs.specs.Held.{heldOf};
+ghost use Rattle.screen.specs.Parts.{shown};
+ghost use Rattle.screen.specs.Screen.{screenOf};
 ghost use Rattle.sockets.specs.Box.{took};
 ghost use Rattle.costerbloom.specs.Numbers.{settingsOf, takeNumbers, wholeNumbers, scaleCall, scaleNumber, memoryBack, backCall, backNumber, ampCall, ampNumber};
 use controls::Reading;
@@ -191,4 +193,21 @@ fn amp(model: u32, kind: u32) -> Reading
         return Reading::Value(0);
     }
     Reading::Refused(32)
+}
+
+// What the screen shows, for the place that C lends for it: no exported function may return a reference. `part` holds a
+// valid part before the call, as that of no programs at all.
+#[no_mangle]
+pub extern "C" fn costerbloom_screen<'a>(
+    part: &mut &'a [u8],
+    program: u32,
+    own: u32,
+    player: u32,
+    kind: u32,
+    programs: &'a [u8],
+    buffer: &'a [u8],
+) -> u64
+    ensures { λ r. ⌜ shown r (now (part .exit)) ≡ screenOf kind program own player (programs .entry) (buffer .entry) ⌝ }
+{
+    screen::show(part, program, own, player, kind, programs, buffer) as u64
 }

@@ -13,9 +13,9 @@ use Rattle.ground.specs.Calls.{left, leaves}
 use Rattle.ground.proofs.Tests.{by}
 use Rattle.ground.proofs.InOrder.{tested-map, tested-renamed, tested-append, tested-when, tested-failed, tested-exactly}
 use Rattle.kinds.specs.declared.Kind.{Kind}
-use Rattle.kinds.specs.Kinds.{kindOf, sizeOf}
+use Rattle.kinds.specs.Kinds.{kindTest, kindOf, sizeOf}
 use Rattle.programs.specs.declared.Player.{Player}
-use Rattle.programs.specs.Memory.{playerOf, memorySize, editPlace, partOf}
+use Rattle.programs.specs.Memory.{playerTest, playerOf, memorySize, editPlace, partOf}
 use Rattle.programs.specs.Held.{Held, Edit, bytesIn}
 use Rattle.programs.proofs.Parts.{edit-length}
 use Rattle.controls.specs.Table.{rowOf}
@@ -54,7 +54,7 @@ use Rattle.podbox.specs.Settings.{isValid}
 use Rattle.podbox.specs.Messages.{isController, channelTests, changeAnswer, controllerDoes, programChangeDoes, channelDoes, messageDoes}
 use Rattle.podbox.specs.Whole.{bodyOf, messageTests, messageOrder}
 use Rattle.podbox.specs.Moves.{moveMessage}
-use Rattle.podbox.specs.Box.{Took, limit, kindTest, playerTest, Moves, plainAnswer, boxRules, takeTests, wholeTests, movesTests, takeOf, wholeOf, movesOf}
+use Rattle.podbox.specs.Box.{Took, limit, Moves, plainAnswer, boxRules, takeTests, wholeTests, movesTests, takeOf, wholeOf, movesOf}
 use Rattle.podbox.proofs.Taking.{sender}
 use Rattle.podbox.proofs.OwnChannel.{on-channel}
 use Rattle.costerbloom.specs.Numbers.{scaleCall, memoryBack, backCall}

@@ -8,8 +8,8 @@ use borrow.Author.Tests.{leb-true}
 use lib.ListN.{length}
 use Rattle.ground.proofs.InOrder.{tested-cases}
 use Rattle.kinds.specs.declared.Kind.{Kind}
-use Rattle.kinds.specs.Kinds.{kindOf, sizeOf}
-use Rattle.programs.specs.Memory.{playerOf, editPlace, partOf}
+use Rattle.kinds.specs.Kinds.{kindTest, kindOf, sizeOf}
+use Rattle.programs.specs.Memory.{playerTest, playerOf, editPlace, partOf}
 use Rattle.programs.specs.Held.{Held}
 use Rattle.controls.specs.declared.Reading.{Reading}
 use Rattle.controls.specs.declared.Reading.the-variants as reading
@@ -27,7 +27,7 @@ use Rattle.sysex.specs.Numbers.{answerNumber, answerLength}
 use Rattle.sysex.proofs.Lengths.{longest-bounds}
 use Rattle.carrying.specs.Carrying.{Left, memoryTest}
 use Rattle.podbox.specs.declared.Move.{Move}
-use Rattle.podbox.specs.Box.{kindTest, playerTest, takeOf, wholeOf, movesOf}
+use Rattle.podbox.specs.Box.{takeOf, wholeOf, movesOf}
 use Rattle.costerbloom.specs.Numbers.{packed, readingNumber, takeNumbers, wholeNumbers, movesNumbers, scaleCall, scaleNumber, memoryBack, backCall, backNumber}
 use Rattle.demands.specs.Answered.{ByteNumber, PanelNumber}
 use Rattle.demands.specs.Moves.{ListNumber}

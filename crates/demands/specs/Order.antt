@@ -7,9 +7,9 @@ use mathlib.Core.List.{List, [], _∷_, _++_, map}
 use lib.ListN.{length}
 use Rattle.ground.specs.Tests.{Test, test, renamed}
 use Rattle.kinds.specs.declared.Kind.{Kind}
-use Rattle.kinds.specs.Kinds.{kindOf, sizeOf}
+use Rattle.kinds.specs.Kinds.{kindTest, kindOf, sizeOf}
 use Rattle.programs.specs.declared.Player.{Player}
-use Rattle.programs.specs.Memory.{playerOf, editPlace, partOf}
+use Rattle.programs.specs.Memory.{playerTest, playerOf, editPlace, partOf}
 use Rattle.programs.specs.Held.{Held, Edit, bytesIn}
 use Rattle.controls.specs.declared.Reading.{Reading}
 use Rattle.controls.specs.declared.Reading.the-variants as reading
@@ -28,7 +28,7 @@ use Rattle.sysex.specs.Judging.{testsOf}
 use Rattle.carrying.specs.Carrying.{memoryTest}
 use Rattle.podbox.specs.Messages.{isController, channelTests}
 use Rattle.podbox.specs.Whole.{messageTests}
-use Rattle.podbox.specs.Box.{limit, kindTest, playerTest, takeTests, wholeTests}
+use Rattle.podbox.specs.Box.{limit, takeTests, wholeTests}
 
 -- the tests of what a byte finishes; a program change has none behind 21
 abbrev pub finishTests : Kind → Settings → Player → Held → Happening → List (Test ℕ)

@@ -4,12 +4,17 @@ use Prim.Native.Nat.{ℕ}
 use mathlib.Core.Bool.{Bool, true, false, cond}
 use mathlib.Core.List.{List, [], _∷_}
 use lib.Dec.{eqb, leb}
+use Rattle.ground.specs.Tests.{Test, test}
 use Rattle.kinds.specs.declared.Kind.{Kind}
 use Rattle.kinds.specs.declared.Kind.the-variants.{Pod, BassPod, PodPro}
 
 -- The numbers by which a call names its kind, 0, 1 and 2: "32 is for none of the three kinds". Of a number that is none it does not matter which kind it gives.
 unfoldable pub isKind : ℕ → Bool
 isKind kindNumber = leb kindNumber 2
+
+-- 32 "a kind that is neither gives 32, just before 30"
+abbrev pub kindTest : ℕ → Test ℕ
+kindTest kindNumber = test 32 (isKind kindNumber)
 
 unfoldable pub kindOf : ℕ → Kind
 kindOf kindNumber = cond (eqb kindNumber 1) BassPod (cond (eqb kindNumber 2) PodPro Pod)

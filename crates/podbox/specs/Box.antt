@@ -6,9 +6,9 @@ use lib.Dec.{eqb, leb}
 use lib.ListN.{length}
 use Rattle.ground.specs.Tests.{Test, test, tested}
 use Rattle.kinds.specs.declared.Kind.{Kind}
-use Rattle.kinds.specs.Kinds.{isKind, kindOf}
+use Rattle.kinds.specs.Kinds.{kindTest, kindOf}
 use Rattle.programs.specs.declared.Player.{Player}
-use Rattle.programs.specs.Memory.{memorySize, isPlayer, playerOf}
+use Rattle.programs.specs.Memory.{memorySize, playerTest, playerOf}
 use Rattle.programs.specs.Held.{Held}
 use Rattle.framing.specs.declared.Receiver.{Receiver}
 use Rattle.framing.specs.Receiver.{soundOf}
@@ -33,10 +33,6 @@ use Rattle.podbox.specs.Moves.{mostMoves, moveMessage}
 abbrev pub limit : Kind → ℕ
 limit kind = longest kind - 1
 
--- 32 "a kind that is neither gives 32, just before 30"
-abbrev pub kindTest : ℕ → Test ℕ
-kindTest kindNumber = test 32 (isKind kindNumber)
-
 -- 32 "a setting out of its range"
 abbrev pub settingsTest : Settings → Test ℕ
 settingsTest settings = test 32 (isValid settings)
@@ -48,10 +44,6 @@ markedTest held = test 32 (areMarks (held .marks))
 -- 32 "receiver not sound, or a setting out of its range", or a mark
 abbrev pub readyTests : Kind → Settings → Receiver → Held → List (Test ℕ)
 readyTests kind settings receiver held = test 32 (soundOf (limit kind) receiver) ∷ settingsTest settings ∷ markedTest held ∷ []
-
--- 31 "socket not 0 or 1", and "wherever a named player is not 0 or 1"
-abbrev pub playerTest : ℕ → Test ℕ
-playerTest playerNumber = test 31 (isPlayer playerNumber)
 
 -- "A call tests 30, 31, 32 in that order": the socket is its player's
 abbrev pub lentTests : Kind → Settings → ℕ → Lent Held → List (Test ℕ)

@@ -4,6 +4,7 @@ use mathlib.Core.Bool.{Bool, cond}
 use mathlib.Core.List.{List, _++_}
 use lib.Dec.{eqb, leb}
 use lib.ListN.{take, drop}
+use Rattle.ground.specs.Tests.{Test, test}
 use Rattle.kinds.specs.declared.Kind.{Kind}
 use Rattle.kinds.specs.Kinds.{sizeOf}
 use Rattle.programs.specs.declared.Player.{Player}
@@ -20,10 +21,14 @@ lastProgram = 0x23
 abbrev pub programPlace : Kind → ℕ → ℕ
 programPlace kind program = program * sizeOf kind
 
--- "socket 0 is player one and socket 1 player two": the numbers by which a call names its player, and 31 is for one that "is not 0 or 1". Of a number that is
--- no player's it does not matter which player it gives.
+-- "socket 0 is player one and socket 1 player two": the numbers by which a call names its player. Of a number that is no player's it does not
+-- matter which player it gives.
 unfoldable pub isPlayer : ℕ → Bool
 isPlayer playerNumber = leb playerNumber 1
+
+-- 31 "socket not 0 or 1", and "wherever a named player is not 0 or 1"
+abbrev pub playerTest : ℕ → Test ℕ
+playerTest playerNumber = test 31 (isPlayer playerNumber)
 
 unfoldable pub playerOf : ℕ → Player
 playerOf playerNumber = cond (eqb playerNumber 0) players.One players.Two

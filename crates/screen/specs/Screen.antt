@@ -6,13 +6,9 @@ use lib.Dec.{eqb, leb}
 use lib.ListN.{length}
 use Rattle.ground.specs.Tests.{Test, test, tested}
 use Rattle.kinds.specs.declared.Kind.{Kind}
-use Rattle.kinds.specs.Kinds.{isKind, kindOf, sizeOf}
-use Rattle.programs.specs.Memory.{lastProgram, programPlace, allSize, isPlayer}
+use Rattle.kinds.specs.Kinds.{kindTest, kindOf, sizeOf}
+use Rattle.programs.specs.Memory.{lastProgram, programPlace, allSize, playerTest}
 use Rattle.screen.specs.Parts.{Slice, Part, lentPart, Shown, showing}
-
--- 32 "is for none of the three kinds", just before 30
-abbrev pub kindTest : ℕ → Test ℕ
-kindTest kindNumber = test 32 (isKind kindNumber)
 
 -- 30 "a lent buffer too short": the programs and the player's own buffer, both whichever is asked for
 abbrev pub programsTest : Kind → ℕ → Test ℕ
@@ -21,15 +17,11 @@ programsTest kind programs = test 30 (leb (allSize kind) programs)
 abbrev pub ownTest : Kind → ℕ → Test ℕ
 ownTest kind buffer = test 30 (leb (sizeOf kind) buffer)
 
--- "31 after 30 wherever a named player is not 0 or 1"
-abbrev pub playerTest : ℕ → Test ℕ
-playerTest player = test 31 (isPlayer player)
-
 -- "then 14 for a program above 0x23", where a program is asked for
 abbrev pub programTest : (program own : ℕ) → Test ℕ
 programTest program own = test 14 (cond (eqb own 0) (leb program lastProgram) true)
 
--- the tests in their order, by the lengths of what is lent
+-- the tests in their order, by the lengths of what is lent: "31 after 30", and 32 for the kind just before 30
 abbrev pub lentTests : Kind → (program own player programs buffer : ℕ) → List (Test ℕ)
 lentTests kind program own player programs buffer = programsTest kind programs ∷ ownTest kind buffer ∷ playerTest player ∷ programTest program own ∷ []
 
