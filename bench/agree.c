@@ -198,19 +198,27 @@ static int amps_same(uint32_t kind)
     return 1;
 }
 
-/* What a screen asks for, with so many bytes of the programs and of the own buffer; both lie in one memory, at the same
- * place on both sides. */
+/* What a screen asks for. Programs and own buffer lie in one memory, so many bytes from its front and so many from a
+ * place on. */
 typedef struct {
     uint32_t program, own, player, kind;
     size_t programs, place, buffer;
 } asked;
 
+/* As much is lent as must be, now and then a byte less, and now and then all up to the end of memory. */
+static size_t any_lent(size_t least, size_t most, uint64_t *seed)
+{
+    uint32_t how = below(seed, 12);
+    return how == 0 ? least - 1 : how == 1 ? most : least;
+}
+
 static asked any_asked(const given *g, uint32_t kind, uint64_t *seed)
 {
     static const uint32_t OWN[] = {0, 0, 0, 1, 256, 0x80000000}, NO_PROGRAM[] = {36, 256, 65536, 0xFFFFFFFF};
+    size_t memory = KIND[kind].memory, place = edit_of(kind, g->player % PLAYERS);
     return (asked){below(seed, 8) ? below(seed, 36) : NO_PROGRAM[below(seed, 4)], OWN[below(seed, 6)], g->player,
-        g->kind, edit_of(kind, 0) - (below(seed, 12) == 0), edit_of(kind, g->player % PLAYERS),
-        KIND[kind].program - (below(seed, 12) == 0)};
+        g->kind, any_lent(edit_of(kind, 0), memory, seed), place,
+        any_lent(KIND[kind].program, memory - place, seed)};
 }
 
 /* Every bit of the part is written, whatever it was before. */

@@ -681,6 +681,18 @@ static void expect_changes(const struct kind *k)
     }
 }
 
+/* A controller that comes byte by byte is stored in the player's edit buffer alone. */
+static void expect_controller(const struct kind *k)
+{
+    costerbloom_receiver receiver = {.running = 0xB0, .held = 1, .waiting = 13};
+    uint8_t *drive = edit_of(k, player) + k->drive;
+    fill(memory, sizeof memory, FILLED);
+    expect(take(&receiver, 127, k->number, k->memory, k->longest) == APPLIED, "take", "a controller");
+    expect(*drive == 63, "take", "what a controller stores");
+    *drive = FILLED;
+    expect(is_full_of(memory, sizeof memory, FILLED), "take", "memory beside what a controller stores");
+}
+
 /* The player's edit buffer is asked for at the end: on a Bass POD it is now the last program. */
 static void expect_programs(const struct kind *k)
 {
@@ -845,6 +857,7 @@ static void expect_player(void)
 {
     for (const struct kind *k = kinds; k < kinds_end; k++) {
         expect_lengths(k);
+        expect_controller(k);
         expect_programs(k);
         expect_dumps(k);
         expect_replies(k);

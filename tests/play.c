@@ -199,7 +199,7 @@ static _Noreturn void misplaced(void)
 static void screen(uint32_t own)
 {
     const uint8_t *buffer = memory + lent[OWN];
-    costerbloom_part part = {memory, 0};
+    costerbloom_part part = {reply, 1}; /* another than any that is handed out */
     uint64_t answer = costerbloom_screen(
         &part, controller, own, player, kind, memory, lent[PROGRAMS], buffer, MEMORY_ROOM - lent[OWN]);
     _Bool of_own = answer == TAKEN && own != 0;
