@@ -6,8 +6,8 @@
 #include <costerbloom.h>
 
 /* Reads memory and marks from the file. Where there is no file, both stay as they were lent: fresh. Files of earlier
- * versions are read too, and what they lack stays: player two's edit buffer and mark, or these and all marks, of a box
- * that took no short dump. */
+ * versions, for one player and with marks or without, are read too, and what they lack stays fresh: player two's edit
+ * buffer and mark, and the marks of a box that took no short dump. */
 _Bool programs_load(const char *name, uint8_t *memory, size_t program, uint8_t *marks, _Bool *found);
 
 /* Opens NAME.new for the save to come, so that a folder that cannot be written is told before the first byte. */

@@ -14,7 +14,8 @@
  *
  * Two players share the 36 programs, and each has an edit buffer: player one plays on socket 0, player two on socket 1.
  * Controllers, program changes, edit buffer dumps and edit buffer requests act on the edit buffer, and the mark, of
- * the player whose socket they came on, and leave the other's as they are. A call with no socket names its player.
+ * the player whose socket they came on, and leave the other's as they are: a player notices nothing of the other but
+ * the programs that the other's dumps store. A call with no socket names its player.
  *
  * The caller owns every buffer; no call keeps a pointer, allocates, or waits. Lent at least:
  *
@@ -127,17 +128,18 @@ typedef struct {
  *   15  version not 0
  *   16  a data byte above 0x0F
  *
- * 10, 13 and 30 go by the kind's own lengths, and so does 32: a sound receiver has at most 5,192 bytes stored on a POD,
- * 5,768 on a Bass POD. After 2, send the first `reply length` bytes of the reply buffer; after any other number the
- * length is 0. Only 1 changes marks, and only that of a dump. From 10 on no byte of memory, no mark and no byte of the
- * reply buffer has changed; from 30 on nothing at all has, the receiver neither. */
+ * 30 to 32 are tested at every byte, before all else. 10, 13 and 30 go by the kind's own lengths, and so does 32: a
+ * sound receiver has at most 5,192 bytes stored on a POD, 5,768 on a Bass POD. After 2, send the first `reply length`
+ * bytes of the reply buffer; after any other number the length is 0. Only 1 changes marks, and only that of a dump.
+ * From 10 on no byte of memory, no mark and no byte of the reply buffer has changed; from 30 on nothing at all has, the
+ * receiver neither. */
 uint64_t costerbloom_take(costerbloom_receiver *receiver, uint32_t socket, uint8_t byte, uint32_t kind,
     uint8_t channel, uint8_t omni, uint8_t revision0, uint8_t revision1, uint8_t revision2, uint8_t revision3,
     uint8_t *memory, size_t memory_length, uint8_t *marks, size_t marks_length,
     uint8_t *receive, size_t receive_length, uint8_t *reply, size_t reply_length);
 
 /* A whole message from a player's panel, F0 to F7, with no socket and no receiver. Gives the same numbers at the same
- * places: 1, 2, 10 to 16, 22, or, before these, 30, 31 for the player, or 32. */
+ * places, tested in the same order: 1, 2, 10 to 16, 22, 30, 31 for a player not 0 or 1, or 32. */
 uint64_t costerbloom_whole(const uint8_t *message, size_t message_length, uint32_t player, uint32_t kind,
     uint8_t channel, uint8_t omni, uint8_t revision0, uint8_t revision1, uint8_t revision2, uint8_t revision3,
     uint8_t *memory, size_t memory_length, uint8_t *marks, size_t marks_length,
@@ -196,7 +198,7 @@ uint32_t costerbloom_back(
  * and the part is empty, { programs, 0 }:
  *
  *   32  a kind that is none
- *   30  programs or buffer too short, whichever is asked for
+ *   30  programs or buffer too short, also the one that is not asked for
  *   31  player not 0 or 1
  *   14  program above 0x23, where `own` is 0
  *

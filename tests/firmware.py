@@ -264,13 +264,12 @@ def check_program_change(bench):
     bench.programs.write_bytes(bench.some)
     kind = bench.kind
     # "a program change of 1 to 36 .. copies program 0 to 35 into the edit
-    # buffer"; "0 (manual), 37 (tuner) and above" do not
-    streams, edits = zip(*((bytes((0xC0, 1, change, 0, 0x25, 0x7F)),
-                            change - 1 if kind.changes else PROGRAMS + player)
-                           for player, change in enumerate((8, 36))))
-    edits = [bench.some[edit * kind.size:][:kind.size] for edit in edits]
-    assert (bench.run(*(stream + kind.ask_edit() for stream in streams))
-            == well(*map(kind.dump_edit, edits)))
+    # buffer", the sender's own; "0 (manual), 37 (tuner) and above" do not
+    streams = [bytes((0xC0, 1, change, 0, 0x25, 0x7F)) + kind.ask_edit()
+               for change in (8, 36)]
+    places = (7, 35) if kind.changes else (PROGRAMS, PROGRAMS + 1)
+    edits = [bench.some[place * kind.size:][:kind.size] for place in places]
+    assert bench.run(*streams) == well(*map(kind.dump_edit, edits))
     assert bench.saved() == (bench.some[:PROGRAMS * kind.size]
                              + b''.join(edits) + SET)
 
