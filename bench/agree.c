@@ -1,13 +1,14 @@
-/* Whether the plain side is the same box: every value scaled, bytes of the edit buffer shown back, amp models, then
- * random calls to both, lists of moves of every length among them, compared in every bit that is left. Every kind, and
- * numbers that are none. */
+/* Whether the plain side is the same box: every value scaled, bytes of the edit buffers shown back, amp models, every
+ * program on the screen, then random calls to both, lists of moves of every length among them, compared in every bit
+ * that is left. Every kind, both players, and numbers that are neither. */
 #include "side.h"
 
 /* Lists have 0 to 257 moves, one more than is taken: so many lengths. */
-enum { KINDS = 3, NO_KINDS = 4, LENGTHS = COSTERBLOOM_MOST_MOVES + 2 };
+enum { KINDS = 3, NO_KINDS = 4, PLAYERS = 2, NO_PLAYERS = 4, LENGTHS = COSTERBLOOM_MOST_MOVES + 2 };
 
-/* One past the kinds, some that are a kind if they are cut, and the highest. */
+/* One past the kinds or the players, some that are one if they are cut, and the highest. */
 static const uint32_t NO_KIND[NO_KINDS] = {3, 256, 65537, 0xFFFFFFFF};
+static const uint32_t NO_PLAYER[NO_PLAYERS] = {2, 256, 65537, 0xFFFFFFFF};
 
 /* What the random calls must know of each kind. */
 static const struct {
@@ -24,9 +25,15 @@ static uint32_t another_kind(uint32_t kind, uint64_t *seed)
     return (kind + 1 + below(seed, KINDS - 1)) % KINDS;
 }
 
-/* The arguments of a call. The mark at a place has other bits for it, which make it none; where they are 0 it stays. */
+static size_t edit_of(uint32_t kind, uint32_t player)
+{
+    return COSTERBLOOM_EDIT_OF(KIND[kind].program, player);
+}
+
+/* The arguments of a call; a byte comes on its player's socket. The mark at a place has other bits for it, which make
+ * it none; where they are 0 it stays. */
 typedef struct {
-    uint32_t socket, kind;
+    uint32_t player, kind;
     uint8_t channel, omni, revision3, other_bits;
     size_t memory, marks, receive, reply, place;
 } given;
@@ -34,17 +41,19 @@ typedef struct {
 /* All in range, with the shortest buffers that the kind allows, but for up to three marks more. */
 static given any_given(uint32_t kind, uint64_t *seed)
 {
-    return (given){below(seed, 2), kind, (uint8_t)below(seed, 2), (uint8_t)below(seed, 2), 0x7F, 0, KIND[kind].memory,
-        COSTERBLOOM_MARKS + below(seed, 4), KIND[kind].longest, KIND[kind].longest, 0};
+    return (given){below(seed, PLAYERS), kind, (uint8_t)below(seed, 2), (uint8_t)below(seed, 2), 0x7F, 0,
+        KIND[kind].memory, COSTERBLOOM_MARKS + below(seed, 4), KIND[kind].longest, KIND[kind].longest, 0};
 }
 
-/* One thing just outside its range, or a kind that is none, whatever the buffers. */
+/* One thing outside its range, a player beside something else that is, or a kind that is none, whatever the buffers. */
 static given any_amiss(uint32_t kind, uint64_t *seed)
 {
     static const uint8_t OTHER_BITS[] = {2, 0x80, 0xFE};
     given g = any_given(kind, seed);
+    if (below(seed, 4) == 0)
+        g.player = NO_PLAYER[below(seed, NO_PLAYERS)];
     switch (below(seed, 11)) {
-        case 0: g.socket = 2; break;
+        case 0: g.player = NO_PLAYER[below(seed, NO_PLAYERS)]; break;
         case 1: g.channel = 16; break;
         case 2: g.omni = 2; break;
         case 3: g.revision3 = 0x80; break;
@@ -74,7 +83,7 @@ static costerbloom_receiver any_receiver(uint64_t *seed)
         below(seed, 3) ? 0 : (uint8_t)below(seed, 256)};
 }
 
-/* Some marks, the same on both sides: as they were left, all set or all clear, one set or clear alone, often the edit
+/* Some marks, the same on both sides: as they were left, all set or all clear, one set or clear alone, often an edit
  * buffer's, or any; behind them anything. */
 static void mark_both(box *a, box *b, uint64_t *seed)
 {
@@ -82,7 +91,7 @@ static void mark_both(box *a, box *b, uint64_t *seed)
     for (size_t i = 0; how < 5 && i < COSTERBLOOM_MARKS; i++)
         a->marks[i] = how < 4 ? how % 2 : (uint8_t)below(seed, 2);
     if (how == 2 || how == 3)
-        a->marks[below(seed, 2) ? below(seed, COSTERBLOOM_MARKS) : COSTERBLOOM_MARKS - 1] ^= 1;
+        a->marks[below(seed, 2) ? below(seed, COSTERBLOOM_MARKS) : 36 + below(seed, PLAYERS)] ^= 1;
     for (size_t i = COSTERBLOOM_MARKS; i < sizeof a->marks; i++)
         a->marks[i] = (uint8_t)below(seed, 256);
     __builtin_memcpy(b->marks, a->marks, sizeof a->marks);
@@ -98,9 +107,9 @@ static void change_mark(box *a, box *b, const given *g)
 static int take_same(box *a, box *b, uint8_t byte, const given *g)
 {
     change_mark(a, b, g);
-    uint64_t x = tried.take(&a->receiver, g->socket, byte, g->kind, g->channel, g->omni, 1, 2, 3, g->revision3,
+    uint64_t x = tried.take(&a->receiver, g->player, byte, g->kind, g->channel, g->omni, 1, 2, 3, g->revision3,
         a->memory, g->memory, a->marks, g->marks, a->receive, g->receive, a->reply, g->reply);
-    uint64_t y = plain_take(&b->receiver, g->socket, byte, g->kind, g->channel, g->omni, 1, 2, 3, g->revision3,
+    uint64_t y = plain_take(&b->receiver, g->player, byte, g->kind, g->channel, g->omni, 1, 2, 3, g->revision3,
         b->memory, g->memory, b->marks, g->marks, b->receive, g->receive, b->reply, g->reply);
     change_mark(a, b, g);
     return x == y && same_receiver(&a->receiver, &b->receiver) && same(a->marks, b->marks, sizeof a->marks);
@@ -109,10 +118,10 @@ static int take_same(box *a, box *b, uint8_t byte, const given *g)
 static int whole_same(box *a, box *b, const uint8_t *message, size_t length, const given *g)
 {
     change_mark(a, b, g);
-    uint64_t x = tried.whole(message, length, g->kind, g->channel, g->omni, 1, 2, 3, g->revision3, a->memory, g->memory,
-        a->marks, g->marks, a->reply, g->reply);
-    uint64_t y = plain_whole(message, length, g->kind, g->channel, g->omni, 1, 2, 3, g->revision3, b->memory, g->memory,
-        b->marks, g->marks, b->reply, g->reply);
+    uint64_t x = tried.whole(message, length, g->player, g->kind, g->channel, g->omni, 1, 2, 3, g->revision3, a->memory,
+        g->memory, a->marks, g->marks, a->reply, g->reply);
+    uint64_t y = plain_whole(message, length, g->player, g->kind, g->channel, g->omni, 1, 2, 3, g->revision3, b->memory,
+        g->memory, b->marks, g->marks, b->reply, g->reply);
     change_mark(a, b, g);
     return x == y && same(a->marks, b->marks, sizeof a->marks);
 }
@@ -120,9 +129,9 @@ static int whole_same(box *a, box *b, const uint8_t *message, size_t length, con
 /* The numbers go to the reply buffer, of which so much is lent. */
 static int moves_same(box *a, box *b, const costerbloom_move *moves, size_t count, size_t lent, const given *g)
 {
-    return tried.moves(moves, count, g->kind, g->channel, g->omni, 1, 2, 3, g->revision3, a->memory, g->memory,
-               a->reply, lent) == plain_moves(moves, count, g->kind, g->channel, g->omni, 1, 2, 3, g->revision3,
-                                      b->memory, g->memory, b->reply, lent) &&
+    return tried.moves(moves, count, g->player, g->kind, g->channel, g->omni, 1, 2, 3, g->revision3, a->memory,
+               g->memory, a->reply, lent) == plain_moves(moves, count, g->player, g->kind, g->channel, g->omni, 1, 2, 3,
+                                                 g->revision3, b->memory, g->memory, b->reply, lent) &&
            same_box(a, b);
 }
 
@@ -135,44 +144,44 @@ static int scales_same(uint32_t kind)
     return 1;
 }
 
-static int shows_same(const uint8_t *memory, uint32_t kind, uint32_t first, uint32_t last)
+static int shows_same(const uint8_t *memory, uint32_t player, uint32_t kind, uint32_t first, uint32_t last)
 {
     for (uint32_t controller = first; controller <= last; controller++)
-        if (tried.back(controller, kind, memory, KIND[kind].memory) !=
-            plain_back(controller, kind, memory, KIND[kind].memory))
+        if (tried.back(controller, player, kind, memory, KIND[kind].memory) !=
+            plain_back(controller, player, kind, memory, KIND[kind].memory))
             return 0;
     return 1;
 }
 
 /* A POD or a POD Pro: each effect's fields at every number up to the highest that a formula gives. A field of two bytes
  * begins at an even place or at an odd one; each number stands at both, one after the other. */
-static int fields_same(uint32_t kind)
+static int fields_same(uint32_t player, uint32_t kind)
 {
     enum { HIGHEST = 6350 };
     static const uint8_t SELECTING[] = {14, 7, 0, 2, 5};
     static uint8_t memory[COSTERBLOOM_MEMORY];
-    uint8_t *edit = memory + KIND[kind].memory - KIND[kind].program;
+    uint8_t *edit = memory + edit_of(kind, player);
     for (size_t effect = 0; effect < sizeof SELECTING; effect++) {
         edit[46] = SELECTING[effect];
         for (uint32_t turn = 0; turn <= 2 * HIGHEST + 1; turn++) {
             for (uint32_t place = 48; place <= 54; place++)
                 edit[place] = (uint8_t)(place % 2 == turn % 2 ? turn / 2 : turn / 2 / 256);
-            if (!shows_same(memory, kind, 42, 59))
+            if (!shows_same(memory, player, kind, 42, 59))
                 return 0;
         }
     }
     return 1;
 }
 
-/* Every number in each byte of the edit buffer, another one beside it. */
-static int numbers_same(uint32_t kind)
+/* Every number in each byte of the player's edit buffer, another one beside it. */
+static int numbers_same(uint32_t player, uint32_t kind)
 {
     static uint8_t memory[COSTERBLOOM_MEMORY];
-    uint8_t *edit = memory + KIND[kind].memory - KIND[kind].program;
+    uint8_t *edit = memory + edit_of(kind, player);
     for (uint32_t number = 0; number < 256; number++) {
         for (size_t place = 0; place < KIND[kind].program; place++)
             edit[place] = (uint8_t)(number + place);
-        if (!shows_same(memory, kind, 0, 140))
+        if (!shows_same(memory, player, kind, 0, 140))
             return 0;
     }
     return 1;
@@ -189,23 +198,76 @@ static int amps_same(uint32_t kind)
     return 1;
 }
 
+/* What a screen asks for. Programs and own buffer lie in one memory, so many bytes from its front and so many from a
+ * place on. */
+typedef struct {
+    uint32_t program, own, player, kind;
+    size_t programs, place, buffer;
+} asked;
+
+/* As much is lent as must be, now and then a byte less, and now and then all up to the end of memory. */
+static size_t any_lent(size_t least, size_t most, uint64_t *seed)
+{
+    uint32_t how = below(seed, 12);
+    return how == 0 ? least - 1 : how == 1 ? most : least;
+}
+
+static asked any_asked(const given *g, uint32_t kind, uint64_t *seed)
+{
+    static const uint32_t OWN[] = {0, 0, 0, 1, 256, 0x80000000}, NO_PROGRAM[] = {36, 256, 65536, 0xFFFFFFFF};
+    size_t memory = KIND[kind].memory, place = edit_of(kind, g->player % PLAYERS);
+    return (asked){below(seed, 8) ? below(seed, 36) : NO_PROGRAM[below(seed, 4)], OWN[below(seed, 6)], g->player,
+        g->kind, any_lent(edit_of(kind, 0), memory, seed), place,
+        any_lent(KIND[kind].program, memory - place, seed)};
+}
+
+/* Every bit of the part is written, whatever it was before. */
+static int screen_same(const box *a, const box *b, const asked *s)
+{
+    costerbloom_part x = {a->reply, 1}, y = {b->reply, 2};
+    return tried.screen(&x, s->program, s->own, s->player, s->kind, a->memory, s->programs, a->memory + s->place,
+               s->buffer) == plain_screen(&y, s->program, s->own, s->player, s->kind, b->memory, s->programs,
+                                 b->memory + s->place, s->buffer) &&
+           x.bytes - a->memory == y.bytes - b->memory && x.length == y.length;
+}
+
+/* Each program, the one behind them too, and the own buffer. */
+static int screens_same(uint32_t player, uint32_t kind)
+{
+    static const box a, b;
+    for (uint32_t program = 0; program <= 36; program++)
+        for (uint32_t own = 0; own < 2; own++) {
+            asked s = {program, own, player, kind, edit_of(kind, 0), edit_of(kind, player), KIND[kind].program};
+            if (!screen_same(&a, &b, &s))
+                return 0;
+        }
+    return 1;
+}
+
 int panel_agrees(void)
 {
     for (size_t i = 0; i < NO_KINDS; i++)
         if (!scales_same(NO_KIND[i]) || !amps_same(NO_KIND[i]))
             return 0;
-    for (uint32_t kind = 0; kind < KINDS; kind++)
-        if (!scales_same(kind) || !amps_same(kind) || !numbers_same(kind))
+    for (uint32_t kind = 0; kind < KINDS; kind++) {
+        if (!scales_same(kind) || !amps_same(kind))
             return 0;
-    return fields_same(COSTERBLOOM_POD) && fields_same(COSTERBLOOM_POD_PRO);
+        for (uint32_t player = 0; player < PLAYERS; player++)
+            if (!numbers_same(player, kind) || !screens_same(player, kind))
+                return 0;
+    }
+    return fields_same(COSTERBLOOM_PLAYER_ONE, COSTERBLOOM_POD) &&
+           fields_same(COSTERBLOOM_PLAYER_TWO, COSTERBLOOM_POD_PRO);
 }
 
-static int panel_same(const box *a, const box *b, const given *g, uint64_t *seed)
+static int panel_same(const box *a, const box *b, const given *g, uint32_t kind, uint64_t *seed)
 {
     uint32_t controller = below(seed, 140), value = below(seed, 140);
+    asked s = any_asked(g, kind, seed);
     return tried.scale(controller, value, g->kind) == plain_scale(controller, value, g->kind) &&
-           tried.back(controller, g->kind, a->memory, g->memory) ==
-               plain_back(controller, g->kind, b->memory, g->memory);
+           tried.back(controller, g->player, g->kind, a->memory, g->memory) ==
+               plain_back(controller, g->player, g->kind, b->memory, g->memory) &&
+           screen_same(a, b, &s);
 }
 
 static size_t put(uint8_t *message, const uint8_t *bytes, size_t count)
@@ -300,7 +362,7 @@ static size_t any_message(uint8_t *message, uint32_t kind, uint64_t *seed)
 static int once_same(box *a, box *b, const uint8_t *message, size_t length, uint32_t kind, uint64_t *seed)
 {
     given g = below(seed, 8) ? any_given(kind, seed) : any_amiss(kind, seed);
-    return whole_same(a, b, message, length, &g) && panel_same(a, b, &g, seed);
+    return whole_same(a, b, message, length, &g) && panel_same(a, b, &g, kind, seed);
 }
 
 /* Most controllers are in a POD's table, and one in eight selects an effect for those behind it. */

@@ -23,8 +23,8 @@ static const uint8_t REQUEST[] = {0xF0, 0, 1, 0x0C, 1, 0, 2, 0xF7}, BASS_REQUEST
                      PROGRAM_REQUEST[] = {0xF0, 0, 1, 0x0C, 1, 0, 0, 17, 0xF7};
 
 /* The library as agree.c calls it: itself. */
-const side tried = {
-    costerbloom_take, costerbloom_whole, costerbloom_moves, costerbloom_scale, costerbloom_back, costerbloom_amp};
+const side tried = {costerbloom_take, costerbloom_whole, costerbloom_moves, costerbloom_scale, costerbloom_back,
+    costerbloom_screen, costerbloom_amp};
 
 /* ---- the work, written once for both sides: each side's function is inlined into it, and calls it directly */
 
@@ -104,8 +104,8 @@ ONCE in_lists(moves_call *call, box *b, size_t length)
 {
     uint64_t answers = 0;
     for (size_t i = 0; i < LISTED / length; i++) {
-        uint64_t answer = call(listed + i * length, length, COSTERBLOOM_POD, 0, 0, 0x30, 0x31, 0x30, 0x30, b->memory,
-            sizeof b->memory, b->reply, sizeof b->reply);
+        uint64_t answer = call(listed + i * length, length, COSTERBLOOM_PLAYER_ONE, COSTERBLOOM_POD, 0, 0, 0x30, 0x31,
+            0x30, 0x30, b->memory, sizeof b->memory, b->reply, sizeof b->reply);
         answers = 3 * answers + answer + b->reply[i % length];
     }
     return answers;
@@ -165,8 +165,9 @@ ONCE from_panel(whole_call *whole, box *b)
 {
     uint64_t answers = 0;
     for (int i = 0; i < CALLS; i++)
-        answers = 3 * answers + whole(dump, sizeof dump, COSTERBLOOM_POD, 0, 0, 0x30, 0x31, 0x30, 0x30, b->memory,
-                                    sizeof b->memory, b->marks, sizeof b->marks, b->reply, sizeof b->reply);
+        answers = 3 * answers + whole(dump, sizeof dump, COSTERBLOOM_PLAYER_ONE, COSTERBLOOM_POD, 0, 0, 0x30, 0x31,
+                                    0x30, 0x30, b->memory, sizeof b->memory, b->marks, sizeof b->marks, b->reply,
+                                    sizeof b->reply);
     return answers;
 }
 
@@ -174,7 +175,7 @@ ONCE shown(back_call *back, box *b, uint32_t controller)
 {
     uint64_t answers = 0;
     for (int i = 0; i < QUICK_CALLS; i++)
-        answers = 3 * answers + back(controller, COSTERBLOOM_POD, b->memory, sizeof b->memory);
+        answers = 3 * answers + back(controller, COSTERBLOOM_PLAYER_ONE, COSTERBLOOM_POD, b->memory, sizeof b->memory);
     return answers;
 }
 
@@ -186,6 +187,20 @@ ONCE shown_back(back_call *back, box *b)
 ONCE shown_of_sheet(back_call *back, box *b)
 {
     return shown(back, b, 23);
+}
+
+/* Each program in turn, and between them the own buffer; of the part where it begins is kept too. */
+ONCE screened(screen_call *screen, box *b)
+{
+    uint64_t answers = 0;
+    costerbloom_part part = {b->memory, 0};
+    size_t programs = COSTERBLOOM_EDIT_OF(COSTERBLOOM_POD_PROGRAM, COSTERBLOOM_PLAYER_ONE);
+    for (uint32_t i = 0; i < QUICK_CALLS; i++) {
+        uint64_t answer = screen(&part, i / 2 % 36, i % 2, COSTERBLOOM_PLAYER_ONE, COSTERBLOOM_POD, b->memory, programs,
+            b->memory + programs, COSTERBLOOM_POD_PROGRAM);
+        answers = 3 * answers + answer + part.length + (uint64_t)(part.bytes - b->memory);
+    }
+    return answers;
 }
 
 #define SIDES(name, call)                                                                                              \
@@ -212,6 +227,7 @@ SIDES(last_byte, take)
 SIDES(from_panel, whole)
 SIDES(shown_back, back)
 SIDES(shown_of_sheet, back)
+SIDES(screened, screen)
 SIDES(bass_dump_in, take)
 SIDES(bass_last_byte, take)
 SIDES(bass_reply_out, take)
@@ -282,10 +298,10 @@ static void with_bass_dump(box *b)
     received(b, bass_dump, sizeof bass_dump);
 }
 
-/* Bytes 9 and 16 of the edit buffer are those of controllers 13 and 23. */
+/* Bytes 9 and 16 of player one's edit buffer are those of controllers 13 and 23. */
 static void showing(box *b, uint32_t of_13, uint32_t of_23)
 {
-    uint8_t *edit = b->memory + COSTERBLOOM_POD_MEMORY - COSTERBLOOM_POD_PROGRAM;
+    uint8_t *edit = b->memory + COSTERBLOOM_EDIT_OF(COSTERBLOOM_POD_PROGRAM, COSTERBLOOM_PLAYER_ONE);
     fresh(b);
     edit[9] = (uint8_t)of_13;
     edit[16] = (uint8_t)of_23;
@@ -329,6 +345,7 @@ static const work WORKS[] = {
     {"one call: shown back, found", "call", QUICK_CALLS, with_high, shown_back_library, shown_back_plain},
     {"one call: the same, of the sheet, found", "call", QUICK_CALLS, with_high, shown_of_sheet_library,
         shown_of_sheet_plain},
+    {"one call: the screen", "call", QUICK_CALLS, fresh, screened_library, screened_plain},
     {"Bass POD: a long dump in", "byte", sizeof bass_dump, fresh, bass_dump_in_library, bass_dump_in_plain},
     {"Bass POD: F7 of 5,769 bytes", "call", CALLS, with_bass_dump, bass_last_byte_library, bass_last_byte_plain},
     {"Bass POD: a long reply out", "request", REQUESTS, fresh, bass_reply_out_library, bass_reply_out_plain},
@@ -409,7 +426,7 @@ int main(int words, char **unused)
     make_dump(program_dump, sizeof program_dump, PROGRAM_REQUEST, sizeof PROGRAM_REQUEST);
     make_moves();
     if (!panel_agrees()) {
-        printf("a value is scaled or shown back, or an amp model known, otherwise by the plain side\n");
+        printf("what is scaled, shown back, known or on the screen is another on the plain side\n");
         return 1;
     }
     uint32_t agreed = agree(&boxes[0], &boxes[1], AGREED);

@@ -28,7 +28,7 @@ enum {
     OTHER_MESSAGE = 21,
     OTHER_IDENTITY = 22,
     TOO_SHORT = 30,
-    NO_SOCKET = 31,
+    NO_PLAYER = 31,
     NOT_SOUND = 32,
     TOO_MANY = 33,
     FEW_NUMBERS = 34,
@@ -45,7 +45,7 @@ static inline int are_valid(uint8_t channel, uint8_t omni, uint8_t revision_bits
     return channel <= 15 && omni <= 1 && revision_bits <= 0x7F;
 }
 
-/* Whether each of the 37 is 0 or 1: eight at a time, and the last eight by themselves, since 37 is no multiple. */
+/* Whether each of the 38 is 0 or 1: eight at a time, and the last eight by themselves, since 38 is no multiple. */
 static inline int are_marks(const uint8_t *marks)
 {
     uint64_t bits, eight;
@@ -172,9 +172,9 @@ static const unit POD_PRO = {
 static const unit BASS_POD = {
     COSTERBLOOM_BASS_POD_PROGRAM, 0, {0xF0, 0x00, 0x01, 0x0C, 0x02}, {2, 0, 0, 0}, BASS_POD_ROWS, 1};
 
-IN_KIND size_t edit_of(const unit *u)
+IN_KIND size_t edit_of(const unit *u, uint32_t player)
 {
-    return PROGRAMS * u->program;
+    return COSTERBLOOM_EDIT_OF(u->program, player);
 }
 
 IN_KIND size_t limit_of(const unit *u)
@@ -250,25 +250,27 @@ IN_KIND uint32_t apply(const unit *u, uint32_t controller, uint32_t value, uint8
     return APPLIED;
 }
 
-/* All of a list's tests are done but for 30 and the settings, whose outcome is handed on. */
-IN_KIND uint64_t apply_all(const unit *u, const costerbloom_move *restrict moves, size_t count, int valid,
-    uint8_t *restrict memory, size_t memory_length, uint8_t *restrict numbers)
+/* All of a list's tests are done but for 30, 31 and the settings, whose outcome is handed on. */
+IN_KIND uint64_t apply_all(const unit *u, const costerbloom_move *restrict moves, size_t count, uint32_t player,
+    int valid, uint8_t *restrict memory, size_t memory_length, uint8_t *restrict numbers)
 {
     if (memory_length < COSTERBLOOM_MEMORY_OF(u->program))
         return TOO_SHORT;
+    if (player > COSTERBLOOM_PLAYER_TWO)
+        return NO_PLAYER;
     if (!valid)
         return NOT_SOUND;
+    uint8_t *edit = memory + edit_of(u, player);
     for (size_t i = 0; i < count; i++) {
         uint32_t controller = moves[i].controller;
-        numbers[i] = (uint8_t)(controller > 127 ? NO_CONTROLLER
-                                                : apply(u, controller, moves[i].value, memory + edit_of(u)));
+        numbers[i] = (uint8_t)(controller > 127 ? NO_CONTROLLER : apply(u, controller, moves[i].value, edit));
     }
     return TAKEN;
 }
 
-uint64_t plain_moves(const costerbloom_move *moves, size_t count, uint32_t kind, uint8_t channel, uint8_t omni,
-    uint8_t revision0, uint8_t revision1, uint8_t revision2, uint8_t revision3, uint8_t *memory, size_t memory_length,
-    uint8_t *numbers, size_t numbers_length)
+uint64_t plain_moves(const costerbloom_move *moves, size_t count, uint32_t player, uint32_t kind, uint8_t channel,
+    uint8_t omni, uint8_t revision0, uint8_t revision1, uint8_t revision2, uint8_t revision3, uint8_t *memory,
+    size_t memory_length, uint8_t *numbers, size_t numbers_length)
 {
     if (count > COSTERBLOOM_MOST_MOVES)
         return TOO_MANY;
@@ -276,9 +278,11 @@ uint64_t plain_moves(const costerbloom_move *moves, size_t count, uint32_t kind,
         return FEW_NUMBERS;
     int valid = are_valid(channel, omni, revision0 | revision1 | revision2 | revision3);
     switch (kind) {
-        case COSTERBLOOM_POD: return apply_all(&POD, moves, count, valid, memory, memory_length, numbers);
-        case COSTERBLOOM_BASS_POD: return apply_all(&BASS_POD, moves, count, valid, memory, memory_length, numbers);
-        case COSTERBLOOM_POD_PRO: return apply_all(&POD_PRO, moves, count, valid, memory, memory_length, numbers);
+        case COSTERBLOOM_POD: return apply_all(&POD, moves, count, player, valid, memory, memory_length, numbers);
+        case COSTERBLOOM_BASS_POD:
+            return apply_all(&BASS_POD, moves, count, player, valid, memory, memory_length, numbers);
+        case COSTERBLOOM_POD_PRO:
+            return apply_all(&POD_PRO, moves, count, player, valid, memory, memory_length, numbers);
         default: return NOT_SOUND;
     }
 }
@@ -325,26 +329,30 @@ static inline uint32_t back_row(const row *r, uint32_t stored)
     return (uint32_t)value;
 }
 
-IN_KIND uint32_t back(const unit *u, uint32_t controller, const uint8_t *memory, size_t memory_length)
+IN_KIND uint32_t back(
+    const unit *u, uint32_t controller, uint32_t player, const uint8_t *memory, size_t memory_length)
 {
     if (memory_length < COSTERBLOOM_MEMORY_OF(u->program))
         return REFUSAL + TOO_SHORT;
+    if (player > COSTERBLOOM_PLAYER_TWO)
+        return REFUSAL + NO_PLAYER;
     if (controller > 127 || !u->rows[controller].width)
         return REFUSAL + NO_CONTROLLER;
     const row *r = &u->rows[controller];
-    const uint8_t *edit = memory + edit_of(u);
+    const uint8_t *edit = memory + edit_of(u, player);
     if (!is_selected(r, edit))
         return REFUSAL + NOT_SELECTED;
     uint32_t stored = load(edit + r->place, r->width);
     return r->factor ? back_row(r, stored) : back_m(controller, stored);
 }
 
-uint32_t plain_back(uint32_t controller, uint32_t kind, const uint8_t *memory, size_t memory_length)
+uint32_t plain_back(
+    uint32_t controller, uint32_t player, uint32_t kind, const uint8_t *memory, size_t memory_length)
 {
     switch (kind) {
-        case COSTERBLOOM_POD: return back(&POD, controller, memory, memory_length);
-        case COSTERBLOOM_BASS_POD: return back(&BASS_POD, controller, memory, memory_length);
-        case COSTERBLOOM_POD_PRO: return back(&POD_PRO, controller, memory, memory_length);
+        case COSTERBLOOM_POD: return back(&POD, controller, player, memory, memory_length);
+        case COSTERBLOOM_BASS_POD: return back(&BASS_POD, controller, player, memory, memory_length);
+        case COSTERBLOOM_POD_PRO: return back(&POD_PRO, controller, player, memory, memory_length);
         default: return REFUSAL + NOT_SOUND;
     }
 }
@@ -362,6 +370,35 @@ uint32_t plain_amp(uint32_t model, uint32_t kind)
         case COSTERBLOOM_BASS_POD: return knows(&BASS_POD, model);
         case COSTERBLOOM_POD_PRO: return knows(&POD_PRO, model);
         default: return REFUSAL + NOT_SOUND;
+    }
+}
+
+IN_KIND uint64_t screen(const unit *u, costerbloom_part *part, uint32_t program, uint32_t own, uint32_t player,
+    const uint8_t *programs, size_t programs_length, const uint8_t *buffer, size_t buffer_length)
+{
+    if (programs_length < PROGRAMS * u->program || buffer_length < u->program)
+        return TOO_SHORT;
+    if (player > COSTERBLOOM_PLAYER_TWO)
+        return NO_PLAYER;
+    if (!own && program >= PROGRAMS)
+        return NO_PROGRAM;
+    *part = (costerbloom_part){own ? buffer : programs + program * u->program, u->program};
+    return TAKEN;
+}
+
+/* A refusal leaves the part that is written first. */
+uint64_t plain_screen(costerbloom_part *part, uint32_t program, uint32_t own, uint32_t player, uint32_t kind,
+    const uint8_t *programs, size_t programs_length, const uint8_t *buffer, size_t buffer_length)
+{
+    *part = (costerbloom_part){programs, 0};
+    switch (kind) {
+        case COSTERBLOOM_POD:
+            return screen(&POD, part, program, own, player, programs, programs_length, buffer, buffer_length);
+        case COSTERBLOOM_BASS_POD:
+            return screen(&BASS_POD, part, program, own, player, programs, programs_length, buffer, buffer_length);
+        case COSTERBLOOM_POD_PRO:
+            return screen(&POD_PRO, part, program, own, player, programs, programs_length, buffer, buffer_length);
+        default: return NOT_SOUND;
     }
 }
 
@@ -386,15 +423,16 @@ static uint64_t identify(const unit *u, const settings *s, uint8_t cc, uint8_t *
     return replied(sizeof IDENTITY);
 }
 
-/* What a message names: a program, the edit buffer or all programs, and their marks. */
+/* What a message names: a program, its sender's edit buffer or all programs, and their marks. */
 typedef struct {
     uint8_t *bytes, *marks;
     size_t programs;
 } part;
 
-static inline part part_of(const unit *u, uint8_t type, uint8_t program, uint8_t *memory, uint8_t *marks)
+static inline part part_of(
+    const unit *u, uint8_t type, uint8_t program, uint32_t player, uint8_t *memory, uint8_t *marks)
 {
-    size_t first = type == ONE ? program : type == EDITED ? PROGRAMS : 0;
+    size_t first = type == ONE ? program : type == EDITED ? PROGRAMS + player : 0;
     return (part){memory + first * u->program, marks + first, type == ALL ? PROGRAMS : 1};
 }
 
@@ -451,8 +489,8 @@ static inline int is_identity(const uint8_t *body, size_t length)
 }
 
 /* A body: F0 and the bytes after it, without F7. Nothing is assumed of its bytes. */
-static uint64_t sysex(const unit *u, const settings *s, const uint8_t *body, size_t length, uint8_t *memory,
-    uint8_t *marks, uint8_t *reply)
+static uint64_t sysex(const unit *u, const settings *s, const uint8_t *body, size_t length, uint32_t player,
+    uint8_t *memory, uint8_t *marks, uint8_t *reply)
 {
     if (is_identity(body, length))
         return identify(u, s, body[2], reply);
@@ -467,7 +505,7 @@ static uint64_t sysex(const unit *u, const settings *s, const uint8_t *body, siz
         return WRONG_LENGTH;
     if (type == ONE && body[7] >= PROGRAMS)
         return NO_PROGRAM;
-    const part p = part_of(u, type, body[7], memory, marks);
+    const part p = part_of(u, type, body[7], player, memory, marks);
     if (opcode == REQUEST)
         return answer(u, body, head, &p, reply);
     return store(u, body + head, length == longer ? u->program : u->program - u->spare, &p);
@@ -475,17 +513,18 @@ static uint64_t sysex(const unit *u, const settings *s, const uint8_t *body, siz
 
 /* The arguments of a byte call, kept apart: they are put together as settings for a finished SysEx alone. */
 typedef struct {
+    uint32_t player; /* whose socket it came on */
     uint8_t byte, channel, omni, revision0, revision1, revision2, revision3;
     uint8_t *memory, *marks, *receive, *reply;
     size_t memory_length, marks_length, receive_length, reply_length;
 } call;
 
 /* Programs are counted from 1 here: 0 is manual, 37 the tuner. */
-IN_KIND uint64_t change_program(const unit *u, uint8_t program, uint8_t *memory)
+IN_KIND uint64_t change_program(const unit *u, uint8_t program, uint32_t player, uint8_t *memory)
 {
     if (!u->changes || program < 1 || program > PROGRAMS)
         return OTHER_MESSAGE;
-    __builtin_memcpy(memory + edit_of(u), memory + (program - 1) * u->program, u->program);
+    __builtin_memcpy(memory + edit_of(u, player), memory + (program - 1) * u->program, u->program);
     return STORED;
 }
 
@@ -494,8 +533,8 @@ IN_KIND uint64_t channel_message(const unit *u, const call *c, uint8_t status, u
     if ((status & 0x0F) != c->channel && !c->omni)
         return OTHER_CHANNEL;
     if (status >> 4 == 0xB)
-        return apply(u, first, second, c->memory + edit_of(u));
-    return status >> 4 == 0xC ? change_program(u, first, c->memory) : OTHER_MESSAGE;
+        return apply(u, first, second, c->memory + edit_of(u, c->player));
+    return status >> 4 == 0xC ? change_program(u, first, c->player, c->memory) : OTHER_MESSAGE;
 }
 
 /* ---- from bytes to finished messages */
@@ -558,7 +597,7 @@ IN_KIND uint64_t take_inside(const unit *u, costerbloom_receiver *r, const call 
     if (over)
         return TOO_LONG;
     const settings s = {c->channel, c->omni, {c->revision0, c->revision1, c->revision2, c->revision3}};
-    return sysex(u, &s, c->receive, length, c->memory, c->marks, c->reply);
+    return sysex(u, &s, c->receive, length, c->player, c->memory, c->marks, c->reply);
 }
 
 IN_KIND uint64_t take_outside(const unit *u, costerbloom_receiver *r, const call *c)
@@ -584,12 +623,12 @@ IN_KIND uint64_t take_outside(const unit *u, costerbloom_receiver *r, const call
     return channel_message(u, c, status, first, c->byte);
 }
 
-IN_KIND uint64_t take(const unit *u, costerbloom_receiver *r, uint32_t socket, const call *c)
+IN_KIND uint64_t take(const unit *u, costerbloom_receiver *r, const call *c)
 {
     if (is_short(u, c->memory_length, c->marks_length, c->receive_length, c->reply_length))
         return TOO_SHORT;
-    if (socket > 1)
-        return NO_SOCKET;
+    if (c->player > COSTERBLOOM_PLAYER_TWO)
+        return NO_PLAYER;
     if (!are_valid(c->channel, c->omni, c->revision0 | c->revision1 | c->revision2 | c->revision3) ||
         !are_marks(c->marks))
         return NOT_SOUND;
@@ -603,12 +642,12 @@ uint64_t plain_take(costerbloom_receiver *receiver, uint32_t socket, uint8_t byt
     size_t memory_length, uint8_t *marks, size_t marks_length, uint8_t *receive, size_t receive_length, uint8_t *reply,
     size_t reply_length)
 {
-    const call c = {byte, channel, omni, revision0, revision1, revision2, revision3, memory, marks, receive, reply,
-        memory_length, marks_length, receive_length, reply_length};
+    const call c = {socket, byte, channel, omni, revision0, revision1, revision2, revision3, memory, marks, receive,
+        reply, memory_length, marks_length, receive_length, reply_length};
     switch (kind) {
-        case COSTERBLOOM_POD: return take(&POD, receiver, socket, &c);
-        case COSTERBLOOM_BASS_POD: return take(&BASS_POD, receiver, socket, &c);
-        case COSTERBLOOM_POD_PRO: return take(&POD_PRO, receiver, socket, &c);
+        case COSTERBLOOM_POD: return take(&POD, receiver, &c);
+        case COSTERBLOOM_BASS_POD: return take(&BASS_POD, receiver, &c);
+        case COSTERBLOOM_POD_PRO: return take(&POD_PRO, receiver, &c);
         default: return NOT_SOUND;
     }
 }
@@ -618,9 +657,9 @@ static inline int is_framed(const uint8_t *message, size_t length)
     return length >= 2 && message[0] == 0xF0 && message[length - 1] == 0xF7 && bits_of(message + 1, length - 2) <= 0x7F;
 }
 
-uint64_t plain_whole(const uint8_t *message, size_t message_length, uint32_t kind, uint8_t channel, uint8_t omni,
-    uint8_t revision0, uint8_t revision1, uint8_t revision2, uint8_t revision3, uint8_t *memory, size_t memory_length,
-    uint8_t *marks, size_t marks_length, uint8_t *reply, size_t reply_length)
+uint64_t plain_whole(const uint8_t *message, size_t message_length, uint32_t player, uint32_t kind, uint8_t channel,
+    uint8_t omni, uint8_t revision0, uint8_t revision1, uint8_t revision2, uint8_t revision3, uint8_t *memory,
+    size_t memory_length, uint8_t *marks, size_t marks_length, uint8_t *reply, size_t reply_length)
 {
     static const unit *const UNITS[] = {&POD, &BASS_POD, &POD_PRO};
     const settings s = {channel, omni, {revision0, revision1, revision2, revision3}};
@@ -629,11 +668,13 @@ uint64_t plain_whole(const uint8_t *message, size_t message_length, uint32_t kin
     const unit *u = UNITS[kind];
     if (is_short(u, memory_length, marks_length, reply_length, reply_length))
         return TOO_SHORT;
+    if (player > COSTERBLOOM_PLAYER_TWO)
+        return NO_PLAYER;
     if (!are_valid(channel, omni, revision0 | revision1 | revision2 | revision3) || !are_marks(marks))
         return NOT_SOUND;
     if (message_length > COSTERBLOOM_LONGEST_OF(u->program))
         return TOO_LONG;
     if (!is_framed(message, message_length))
         return NOT_OURS;
-    return sysex(u, &s, message, message_length - 1, memory, marks, reply);
+    return sysex(u, &s, message, message_length - 1, player, memory, marks, reply);
 }

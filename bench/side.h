@@ -7,12 +7,14 @@
 
 typedef uint64_t take_call(costerbloom_receiver *, uint32_t, uint8_t, uint32_t, uint8_t, uint8_t, uint8_t, uint8_t,
     uint8_t, uint8_t, uint8_t *, size_t, uint8_t *, size_t, uint8_t *, size_t, uint8_t *, size_t);
-typedef uint64_t whole_call(const uint8_t *, size_t, uint32_t, uint8_t, uint8_t, uint8_t, uint8_t, uint8_t, uint8_t,
-    uint8_t *, size_t, uint8_t *, size_t, uint8_t *, size_t);
-typedef uint64_t moves_call(const costerbloom_move *, size_t, uint32_t, uint8_t, uint8_t, uint8_t, uint8_t, uint8_t,
-    uint8_t, uint8_t *, size_t, uint8_t *, size_t);
+typedef uint64_t whole_call(const uint8_t *, size_t, uint32_t, uint32_t, uint8_t, uint8_t, uint8_t, uint8_t, uint8_t,
+    uint8_t, uint8_t *, size_t, uint8_t *, size_t, uint8_t *, size_t);
+typedef uint64_t moves_call(const costerbloom_move *, size_t, uint32_t, uint32_t, uint8_t, uint8_t, uint8_t, uint8_t,
+    uint8_t, uint8_t, uint8_t *, size_t, uint8_t *, size_t);
 typedef uint32_t scale_call(uint32_t, uint32_t, uint32_t);
-typedef uint32_t back_call(uint32_t, uint32_t, const uint8_t *, size_t);
+typedef uint32_t back_call(uint32_t, uint32_t, uint32_t, const uint8_t *, size_t);
+typedef uint64_t screen_call(
+    costerbloom_part *, uint32_t, uint32_t, uint32_t, uint32_t, const uint8_t *, size_t, const uint8_t *, size_t);
 typedef uint32_t amp_call(uint32_t, uint32_t);
 
 /* The library as agree.c calls it: by the functions that the program has put here. */
@@ -22,6 +24,7 @@ typedef struct {
     moves_call *moves;
     scale_call *scale;
     back_call *back;
+    screen_call *screen;
     amp_call *amp;
 } side;
 extern const side tried;
@@ -72,8 +75,8 @@ static inline int same_box(const box *a, const box *b)
            same(a->reply, b->reply, sizeof a->reply);
 }
 
-/* Whether both sides scale every value alike, know the same amp models, and show shared fields and single bytes back
- * alike. */
+/* Whether both sides scale every value alike, know the same amp models, show shared fields and single bytes back alike,
+ * and hand the screen the same parts. */
 int panel_agrees(void);
 
 /* Calls both sides with the same random calls, refused ones too, and compares all that is left. Returns how many calls

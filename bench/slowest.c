@@ -7,7 +7,7 @@ int printf(const char *form, ...);
 
 /* A MIDI byte takes 320 microseconds on the cable. */
 enum { RUNS = 15, CALLS = 6000000, MOST_TIMED = 12000000, CABLE = 320000 };
-enum { TAKE, WHOLE, MOVES, SCALE, BACK, AMP, FUNCTIONS };
+enum { TAKE, WHOLE, MOVES, SCALE, BACK, SCREEN, AMP, FUNCTIONS };
 
 /* How a call is told, by what it asked. */
 static const struct {
@@ -18,6 +18,7 @@ static const struct {
     {"moves", "%u moves"},
     {"scale", "controller %u, value %u"},
     {"back", "controller %u"},
+    {"screen", "program %u, own %u"},
     {"amp", "model %u"},
 };
 static const char *const KIND[] = {"POD", "Bass POD", "POD Pro", "no kind"};
@@ -58,24 +59,24 @@ static uint64_t take(costerbloom_receiver *receiver, uint32_t socket, uint8_t by
     return answer;
 }
 
-static uint64_t whole(const uint8_t *message, size_t message_length, uint32_t kind, uint8_t channel, uint8_t omni,
-    uint8_t revision0, uint8_t revision1, uint8_t revision2, uint8_t revision3, uint8_t *memory, size_t memory_length,
-    uint8_t *marks, size_t marks_length, uint8_t *reply, size_t reply_length)
+static uint64_t whole(const uint8_t *message, size_t message_length, uint32_t player, uint32_t kind, uint8_t channel,
+    uint8_t omni, uint8_t revision0, uint8_t revision1, uint8_t revision2, uint8_t revision3, uint8_t *memory,
+    size_t memory_length, uint8_t *marks, size_t marks_length, uint8_t *reply, size_t reply_length)
 {
     uint64_t from = now();
-    uint64_t answer = costerbloom_whole(message, message_length, kind, channel, omni, revision0, revision1, revision2,
-        revision3, memory, memory_length, marks, marks_length, reply, reply_length);
+    uint64_t answer = costerbloom_whole(message, message_length, player, kind, channel, omni, revision0, revision1,
+        revision2, revision3, memory, memory_length, marks, marks_length, reply, reply_length);
     keep(WHOLE, now() - from, kind, (uint32_t)message_length, 0, answer & 0xFF);
     return answer;
 }
 
-static uint64_t moves(const costerbloom_move *moves, size_t count, uint32_t kind, uint8_t channel, uint8_t omni,
-    uint8_t revision0, uint8_t revision1, uint8_t revision2, uint8_t revision3, uint8_t *memory, size_t memory_length,
-    uint8_t *numbers, size_t numbers_length)
+static uint64_t moves(const costerbloom_move *moves, size_t count, uint32_t player, uint32_t kind, uint8_t channel,
+    uint8_t omni, uint8_t revision0, uint8_t revision1, uint8_t revision2, uint8_t revision3, uint8_t *memory,
+    size_t memory_length, uint8_t *numbers, size_t numbers_length)
 {
     uint64_t from = now();
-    uint64_t answer = costerbloom_moves(moves, count, kind, channel, omni, revision0, revision1, revision2, revision3,
-        memory, memory_length, numbers, numbers_length);
+    uint64_t answer = costerbloom_moves(moves, count, player, kind, channel, omni, revision0, revision1, revision2,
+        revision3, memory, memory_length, numbers, numbers_length);
     keep(MOVES, now() - from, kind, (uint32_t)count, 0, answer & 0xFF);
     return answer;
 }
@@ -88,11 +89,22 @@ static uint32_t scale(uint32_t controller, uint32_t value, uint32_t kind)
     return answer;
 }
 
-static uint32_t back(uint32_t controller, uint32_t kind, const uint8_t *memory, size_t memory_length)
+static uint32_t back(
+    uint32_t controller, uint32_t player, uint32_t kind, const uint8_t *memory, size_t memory_length)
 {
     uint64_t from = now();
-    uint32_t answer = costerbloom_back(controller, kind, memory, memory_length);
+    uint32_t answer = costerbloom_back(controller, player, kind, memory, memory_length);
     keep(BACK, now() - from, kind, controller, 0, answer);
+    return answer;
+}
+
+static uint64_t screen(costerbloom_part *part, uint32_t program, uint32_t own, uint32_t player, uint32_t kind,
+    const uint8_t *programs, size_t programs_length, const uint8_t *buffer, size_t buffer_length)
+{
+    uint64_t from = now();
+    uint64_t answer =
+        costerbloom_screen(part, program, own, player, kind, programs, programs_length, buffer, buffer_length);
+    keep(SCREEN, now() - from, kind, program, own, answer & 0xFF);
     return answer;
 }
 
@@ -105,7 +117,7 @@ static uint32_t amp(uint32_t model, uint32_t kind)
 }
 
 /* The library as agree.c calls it: with a look at the clock before and behind. */
-const side tried = {take, whole, moves, scale, back, amp};
+const side tried = {take, whole, moves, scale, back, screen, amp};
 
 /* The least time of nothing. */
 static uint64_t clock_cost(void)
@@ -121,7 +133,7 @@ static uint64_t clock_cost(void)
 static void tell(int function)
 {
     const call *c = &slowest[function];
-    printf("%-5s  %5u ns  %5.2f %%  ", FUNCTION[function].name, c->nanoseconds, 100.0 * c->nanoseconds / CABLE);
+    printf("%-6s  %5u ns  %5.2f %%  ", FUNCTION[function].name, c->nanoseconds, 100.0 * c->nanoseconds / CABLE);
     printf(FUNCTION[function].asked, c->asked[0], c->asked[1]);
     printf(
         ", %s, answer %s%u\n", KIND[c->kind < 3 ? c->kind : 3], c->answer < 65536 ? "" : "65536 + ", c->answer % 65536);

@@ -1,6 +1,6 @@
-/* The box on a bench: two inputs and two outputs (files, pipes or devices) stand for the two MIDI sockets, and a file
- * for the memory and the marks that outlive the power. All that is judged, stored and answered is the proved library's
- * work; this loop brings it the bytes and carries its replies away.
+/* The box on a bench: two inputs and two outputs (files, pipes or devices) stand for the players' two MIDI sockets, and
+ * a file for the memory and the marks that outlive the power. All that is judged, stored and answered is the proved
+ * library's work; this loop brings it the bytes and carries its replies away.
  *
  * As on a MIDI wire, one byte goes at a time: a turn takes one byte from each input that is ready, or brings one byte
  * of a reply to an output. Once all is open nothing but poll waits for a byte, so neither socket waits for the other.
@@ -20,15 +20,15 @@ enum { SOCKETS = 2 };
 enum { STORED = 1, APPLIED = 3, FIRST_FAULT = 30 }; /* numbers; 30 to 32 blame the caller: this file */
 enum { BETWEEN_SAVES = 1000 }; /* milliseconds */
 
-/* What a box can be set as: a word for the kind, and how many bytes of memory it has. */
+/* What a box can be set as: a word for the kind, and how many bytes a program has. */
 static const struct unit {
     const char *word;
     uint32_t kind;
-    size_t memory;
+    size_t program;
 } units[] = {
-    {"pod", COSTERBLOOM_POD, COSTERBLOOM_POD_MEMORY},
-    {"bass", COSTERBLOOM_BASS_POD, COSTERBLOOM_BASS_POD_MEMORY},
-    {"pro", COSTERBLOOM_POD_PRO, COSTERBLOOM_POD_PRO_MEMORY},
+    {"pod", COSTERBLOOM_POD, COSTERBLOOM_POD_PROGRAM},
+    {"bass", COSTERBLOOM_BASS_POD, COSTERBLOOM_BASS_POD_PROGRAM},
+    {"pro", COSTERBLOOM_POD_PRO, COSTERBLOOM_POD_PRO_PROGRAM},
 };
 
 struct wire {
@@ -176,7 +176,7 @@ static int patience(void)
 /* A save that fails has said so. The programs are still here, and it is tried again a second later. */
 static _Bool save(const char *programs)
 {
-    _Bool saved = programs_save(programs, memory, unit->memory, marks);
+    _Bool saved = programs_save(programs, memory, unit->program, marks);
     if (saved)
         lacking = NOTHING;
     next_save = now() + BETWEEN_SAVES;
@@ -220,7 +220,7 @@ static _Bool load(const char *programs)
     _Bool found;
     for (size_t place = 0; place < sizeof marks; place++)
         marks[place] = 1;
-    if (!programs_load(programs, memory, unit->memory, marks, &found))
+    if (!programs_load(programs, memory, unit->program, marks, &found))
         return 0;
     lacking = found ? NOTHING : ITSELF;
     return 1;
@@ -230,12 +230,12 @@ int main(int count, char **words)
 {
     if (count != 7 || !set_as(words[1])) {
         say("usage: box KIND PROGRAMS INPUT0 INPUT1 OUTPUT0 OUTPUT1\n"
-            "KIND is the word pod, bass or pro. Bytes that come on sockets 0 and 1 are read from INPUT0 and INPUT1,\n"
-            "replies are written to OUTPUT0 and OUTPUT1. The file PROGRAMS keeps the programs, the edit buffer and\n"
-            "the marks, 2701 bytes of a pod or a pro, 2997 of a bass, from one run to the next: it is read at the\n"
-            "start, also one of an earlier version, without marks, and replaced where something was stored: as soon\n"
-            "as no byte waits, at most once a second, and when both inputs have ended, or at SIGINT or SIGTERM. A\n"
-            "pod reads a pro's file, and a pro a pod's.\n");
+            "KIND is the word pod, bass or pro. Bytes that come on sockets 0 and 1, from player one and player two,\n"
+            "are read from INPUT0 and INPUT1, replies are written to OUTPUT0 and OUTPUT1. The file PROGRAMS keeps the\n"
+            "programs, both players' edit buffers and the marks, 2774 bytes of a pod or a pro, 3078 of a bass, from\n"
+            "one run to the next: it is read at the start, also one of an earlier version, for one player or without\n"
+            "marks, and replaced where something was stored: as soon as no byte waits, at most once a second, and\n"
+            "when both inputs have ended, or at SIGINT or SIGTERM. A pod reads a pro's file, and a pro a pod's.\n");
         return MISUSED;
     }
     const char *programs = words[2];

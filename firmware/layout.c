@@ -1,5 +1,5 @@
-/* The records costerbloom_receiver and costerbloom_move: the library and the header place their fields alike. Says
- * nothing where they do. */
+/* The records costerbloom_receiver, costerbloom_move and costerbloom_part: the library and the header place their
+ * fields alike. Says nothing where they do. */
 #include <costerbloom.h>
 
 #include "filled.h"
@@ -18,6 +18,9 @@ _Static_assert(sizeof(costerbloom_move) == 2 && sizeof(costerbloom_move[3]) == 6
 _Static_assert(_Alignof(costerbloom_move) == 1, "alignment of a move");
 _Static_assert(offsetof(costerbloom_move, controller) == 0, "controller");
 _Static_assert(offsetof(costerbloom_move, value) == 1, "value");
+
+_Static_assert(sizeof(costerbloom_part) == 16 && _Alignof(costerbloom_part) == 8, "size and alignment of a part");
+_Static_assert(offsetof(costerbloom_part, bytes) == 0 && offsetof(costerbloom_part, length) == 8, "bytes, length");
 
 enum { FIELD_BYTES = 7, BESIDE = 8, UNTOUCHED = 0xA5 };
 
@@ -77,6 +80,13 @@ static struct {
     uint8_t between[BESIDE], numbers[MOVES], after[BESIDE];
 } listed;
 
+/* The same of a part. */
+static struct {
+    uint8_t before[BESIDE];
+    costerbloom_part part;
+    uint8_t after[BESIDE];
+} handed;
+
 static uint8_t memory[COSTERBLOOM_MEMORY], marks[COSTERBLOOM_MARKS];
 static uint8_t receive[COSTERBLOOM_LONGEST], reply[COSTERBLOOM_LONGEST];
 
@@ -114,14 +124,14 @@ static void move_all(void)
     fill(&listed, sizeof listed, UNTOUCHED);
     for (size_t move = 0; move < MOVES; move++)
         listed.moves[move] = scene[move].move;
-    costerbloom_moves(listed.moves, MOVES, COSTERBLOOM_POD, 0, 0, 0, 0, 0, 0, memory, sizeof memory, listed.numbers,
-        sizeof listed.numbers);
+    costerbloom_moves(listed.moves, MOVES, COSTERBLOOM_PLAYER_ONE, COSTERBLOOM_POD, 0, 0, 0, 0, 0, 0, memory,
+        sizeof memory, listed.numbers, sizeof listed.numbers);
 }
 
 static _Bool reads_another(void)
 {
     _Bool another = 0;
-    const uint8_t *edit = memory + COSTERBLOOM_POD_MEMORY - COSTERBLOOM_POD_PROGRAM;
+    const uint8_t *edit = memory + COSTERBLOOM_EDIT_OF(COSTERBLOOM_POD_PROGRAM, COSTERBLOOM_PLAYER_ONE);
     for (size_t move = 0; move < MOVES; move++) {
         if (listed.numbers[move] != scene[move].number)
             another = differs(scene[move].fed, "number");
@@ -133,6 +143,21 @@ static _Bool reads_another(void)
         !is_full_of(listed.after, sizeof listed.after, UNTOUCHED))
         another = differs("a list of moves", "a byte beside it");
     return another;
+}
+
+/* A part of the programs, and an empty one for a program that is none. */
+static _Bool hands_another(uint32_t program, size_t place, size_t length)
+{
+    const char *fed = length ? "a program on the screen" : "no program on the screen";
+    fill(&handed, sizeof handed, UNTOUCHED);
+    handed.part = (costerbloom_part){reply, 1};
+    costerbloom_screen(&handed.part, program, 0, COSTERBLOOM_PLAYER_ONE, COSTERBLOOM_POD, memory, sizeof memory,
+        receive, sizeof receive);
+    if (!is_full_of(handed.before, sizeof handed.before, UNTOUCHED) ||
+        !is_full_of(handed.after, sizeof handed.after, UNTOUCHED))
+        return differs(fed, "a byte beside it");
+    return (handed.part.bytes != memory + place && differs(fed, "bytes")) ||
+           (handed.part.length != length && differs(fed, "length"));
 }
 
 int main(void)
@@ -148,5 +173,7 @@ int main(void)
     }
     move_all();
     wrong |= reads_another();
+    wrong |= hands_another(35, 2520, 72);
+    wrong |= hands_another(36, 0, 0);
     return wrong;
 }

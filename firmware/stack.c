@@ -1,5 +1,5 @@
-/* A call takes less of the stack than the header says, whatever the kind. The calls are made on a stack of this
- * program's own, which is painted before. Says nothing where all is well. */
+/* A call takes less of the stack than the header says, whatever the kind and the player. The calls are made on a stack
+ * of this program's own, which is painted before. Says nothing where all is well. */
 #include <costerbloom.h>
 
 #include "filled.h"
@@ -10,14 +10,13 @@ enum { SELECTOR = 46, SELECTING = 19 }; /* the byte of the edit buffer, and the 
 
 static const struct kind {
     uint32_t number;
-    size_t edit, longest, shortest; /* the last two: of a dump of all programs, by their marks */
+    size_t program, longest, shortest; /* the last two: of a dump of all programs, by their marks */
     uint8_t request[8]; /* for all programs */
 } kinds[] = {
-    {COSTERBLOOM_POD, COSTERBLOOM_POD_MEMORY - COSTERBLOOM_POD_PROGRAM, COSTERBLOOM_POD_LONGEST, 5121,
-        {0xF0, 0, 1, 0x0C, 1, 0, 2, 0xF7}},
-    {COSTERBLOOM_BASS_POD, COSTERBLOOM_BASS_POD_MEMORY - COSTERBLOOM_BASS_POD_PROGRAM, COSTERBLOOM_BASS_POD_LONGEST,
-        COSTERBLOOM_BASS_POD_LONGEST, {0xF0, 0, 1, 0x0C, 2, 0, 2, 0xF7}},
-    {COSTERBLOOM_POD_PRO, COSTERBLOOM_POD_PRO_MEMORY - COSTERBLOOM_POD_PRO_PROGRAM, COSTERBLOOM_POD_PRO_LONGEST, 5121,
+    {COSTERBLOOM_POD, COSTERBLOOM_POD_PROGRAM, COSTERBLOOM_POD_LONGEST, 5121, {0xF0, 0, 1, 0x0C, 1, 0, 2, 0xF7}},
+    {COSTERBLOOM_BASS_POD, COSTERBLOOM_BASS_POD_PROGRAM, COSTERBLOOM_BASS_POD_LONGEST, COSTERBLOOM_BASS_POD_LONGEST,
+        {0xF0, 0, 1, 0x0C, 2, 0, 2, 0xF7}},
+    {COSTERBLOOM_POD_PRO, COSTERBLOOM_POD_PRO_PROGRAM, COSTERBLOOM_POD_PRO_LONGEST, 5121,
         {0xF0, 0, 1, 0x0C, 1, 0, 2, 0xF7}},
 };
 
@@ -29,10 +28,11 @@ static costerbloom_receiver receiver;
 static costerbloom_move list[COSTERBLOOM_MOST_MOVES];
 static uint8_t numbers[COSTERBLOOM_MOST_MOVES];
 
-/* The kind that is tried, and what its calls did: moves that were applied, by bytes and in lists, dumps and program
- * changes. */
+/* The kind and the player that are tried, and what their calls did: moves that were applied, by bytes and in lists,
+ * dumps and program changes, and parts for the screen. */
 static const struct kind *kind;
-static int applied, listed, stored;
+static uint32_t player;
+static int applied, listed, stored, shown;
 
 /* Calls a function with the stack's end at `top`. */
 void on_stack(void (*calls)(void), uint8_t *top);
@@ -40,13 +40,13 @@ __asm__("on_stack: push %rbp\n mov %rsp, %rbp\n mov %rsi, %rsp\n call *%rdi\n mo
 
 static uint64_t take(uint8_t byte)
 {
-    return costerbloom_take(&receiver, 0, byte, kind->number, 0, 0, 1, 2, 3, 4, memory, sizeof memory, marks,
+    return costerbloom_take(&receiver, player, byte, kind->number, 0, 0, 1, 2, 3, 4, memory, sizeof memory, marks,
         sizeof marks, receive, sizeof receive, reply, sizeof reply);
 }
 
 static uint64_t whole(const uint8_t *message, size_t length)
 {
-    return costerbloom_whole(message, length, kind->number, 0, 0, 1, 2, 3, 4, memory, sizeof memory, marks,
+    return costerbloom_whole(message, length, player, kind->number, 0, 0, 1, 2, 3, 4, memory, sizeof memory, marks,
         sizeof marks, reply, sizeof reply);
 }
 
@@ -54,15 +54,16 @@ static uint64_t whole(const uint8_t *message, size_t length)
  * each program change. */
 static void moves(void)
 {
+    uint8_t *edit = memory + COSTERBLOOM_EDIT_OF(kind->program, player);
     for (uint32_t place = 0; place < 16 * 128; place++) {
         uint8_t controller = place % 128;
         for (uint8_t value = 0; value < 128; value += 127) {
-            memory[kind->edit + SELECTOR] = (uint8_t)(place / 128);
+            edit[SELECTOR] = (uint8_t)(place / 128);
             take(0xB0);
             take(controller);
             applied += take(value) == APPLIED;
             costerbloom_scale(controller, value, kind->number);
-            costerbloom_back(controller, kind->number, memory, sizeof memory);
+            costerbloom_back(controller, player, kind->number, memory, sizeof memory);
             costerbloom_amp(value, kind->number);
         }
     }
@@ -79,8 +80,8 @@ static void lists(void)
             uint8_t controller = (uint8_t)(move / 2), value = move % 2 ? 127 : 0;
             list[move] = (costerbloom_move){controller, controller == SELECTING ? effect : value};
         }
-        costerbloom_moves(list, COSTERBLOOM_MOST_MOVES, kind->number, 0, 0, 1, 2, 3, 4, memory, sizeof memory, numbers,
-            sizeof numbers);
+        costerbloom_moves(list, COSTERBLOOM_MOST_MOVES, player, kind->number, 0, 0, 1, 2, 3, 4, memory, sizeof memory,
+            numbers, sizeof numbers);
         for (size_t move = 0; move < COSTERBLOOM_MOST_MOVES; move++)
             listed += numbers[move] == APPLIED;
     }
@@ -106,6 +107,18 @@ static void dumps(void)
     dumps_of(0, kind->shortest);
 }
 
+/* Each program, and the own buffer, which is shown whatever the program. */
+static void screens(void)
+{
+    costerbloom_part part = {memory, 0};
+    for (uint32_t program = 0; program < 40; program++)
+        for (uint32_t own = 0; own < 2; own++) {
+            costerbloom_screen(&part, program, own, player, kind->number, memory, sizeof memory,
+                memory + COSTERBLOOM_EDIT_OF(kind->program, player), kind->program);
+            shown += part.length == kind->program;
+        }
+}
+
 /* How many bytes of the stack were written. */
 static size_t used_by(void (*calls)(void))
 {
@@ -117,17 +130,23 @@ static size_t used_by(void (*calls)(void))
     return sizeof stack - untouched;
 }
 
+static void try_all(_Bool *within, _Bool *done)
+{
+    applied = listed = stored = shown = 0;
+    *within &= used_by(moves) < MOST;
+    *within &= used_by(lists) < MOST;
+    *within &= used_by(dumps) < MOST;
+    *within &= used_by(screens) < MOST;
+    int changes = kind->number == COSTERBLOOM_BASS_POD ? 36 : 0;
+    *done &= applied != 0 && listed != 0 && stored == changes + 4 && shown == 36 + 40;
+}
+
 int main(void)
 {
     _Bool within = 1, done = 1;
-    for (kind = kinds; kind < kinds + sizeof kinds / sizeof *kinds; kind++) {
-        applied = listed = stored = 0;
-        within &= used_by(moves) < MOST;
-        within &= used_by(lists) < MOST;
-        within &= used_by(dumps) < MOST;
-        int changes = kind->number == COSTERBLOOM_BASS_POD ? 36 : 0;
-        done &= applied != 0 && listed != 0 && stored == changes + 4;
-    }
+    for (kind = kinds; kind < kinds + sizeof kinds / sizeof *kinds; kind++)
+        for (player = COSTERBLOOM_PLAYER_ONE; player <= COSTERBLOOM_PLAYER_TWO; player++)
+            try_all(&within, &done);
     if (!done)
         say("stack: the calls did not do what they should\n");
     else if (!within)

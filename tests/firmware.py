@@ -25,8 +25,10 @@ BOX, FAULTY, *RUNNER = sys.argv[1:]
 PATIENCE = 60  # seconds for a check, under an emulator too
 MOST_SAID = 4096  # a box that says more waits for ever, and is ended
 PROGRAMS = 36
-# "Each program and the edit buffer now carry a mark"
-SET = bytes((PROGRAMS + 1) * [1])
+PLAYERS = 2
+# "Each program and the edit buffer now carry a mark"; "each [player] has an
+# edit buffer"
+SET = bytes((PROGRAMS + PLAYERS) * [1])
 
 IDENTITY = bytes.fromhex('F0 7E 7F 06 01 F7')
 # a controller, an identity request and a program change for another channel
@@ -109,9 +111,10 @@ def halves(data):
     return bytes(half for byte in data for half in (byte >> 4, byte & 0x0F))
 
 
-POD = Kind('pod', 72, 2664, 0x01, '00 00 00 01', False)
-BASS = Kind('bass', 80, 2960, 0x02, '02 00 00 00', True)
-PRO = Kind('pro', 72, 2664, 0x01, '00 00 00 04', False)
+# "Memory grows by one edit buffer, player two's, last."
+POD = Kind('pod', 72, 2664 + 72, 0x01, '00 00 00 01', False)
+BASS = Kind('bass', 80, 2960 + 80, 0x02, '02 00 00 00', True)
+PRO = Kind('pro', 72, 2664 + 72, 0x01, '00 00 00 04', False)
 KINDS = POD, BASS, PRO
 
 
@@ -139,6 +142,7 @@ class Bench:
         self.every, self.every_other = kind.programs(5), kind.programs(6)
         self.some = pattern(kind.memory, 1) + SET
         self.zero = bytes(kind.size)
+        self.zeros = PLAYERS * self.zero
 
     def begin(self, program, *words):
         """Start a program with these words."""
@@ -194,7 +198,7 @@ class Bench:
         return self.programs.read_bytes()
 
     def saved_program(self, program):
-        """Return the bytes of one program of the programs file."""
+        """Return the bytes of a program, or an edit buffer, of the file."""
         return self.saved()[program * self.kind.size:][:self.kind.size]
 
     def wait_until_saved(self, program, data):
@@ -235,7 +239,7 @@ def check_exports(_):
     count, = unpack_from('>I', index)
     offered = index[4 + 4 * count:].rstrip(b'\0\n').split(b'\0')
     header = Path('include/costerbloom.h').read_bytes()
-    declared = re.findall(rb'(costerbloom_\w+)\(', header)
+    declared = re.findall(rb'^uint\d+_t (costerbloom_\w+)\(', header, re.M)
     assert sorted(offered) == sorted(declared), offered
 
 
@@ -251,7 +255,8 @@ def check_bench_case(bench):
     drive, bass = (4, 6) if kind is BASS else (9, 11)
     edit = bytearray(kind.size)
     edit[drive], edit[bass] = 0x7F // 2, 0x40 // 2
-    assert bench.saved() == bytes(PROGRAMS * kind.size) + edit + SET
+    assert bench.saved() == (bytes(PROGRAMS * kind.size) + edit + bench.zero
+                             + SET)
 
 
 def check_program_change(bench):
@@ -259,12 +264,14 @@ def check_program_change(bench):
     bench.programs.write_bytes(bench.some)
     kind = bench.kind
     # "a program change of 1 to 36 .. copies program 0 to 35 into the edit
-    # buffer"; "0 (manual), 37 (tuner) and above" do not
-    place = 7 * kind.size if kind.changes else PROGRAMS * kind.size
-    edit = bench.some[place:][:kind.size]
-    stream = bytes.fromhex('C0 01 08 00 25 7F') + kind.ask_edit()
-    assert bench.run(stream, b'') == well(kind.dump_edit(edit), b'')
-    assert bench.saved() == bench.some[:PROGRAMS * kind.size] + edit + SET
+    # buffer", the sender's own; "0 (manual), 37 (tuner) and above" do not
+    streams = [bytes((0xC0, 1, change, 0, 0x25, 0x7F)) + kind.ask_edit()
+               for change in (8, 36)]
+    places = (7, 35) if kind.changes else (PROGRAMS, PROGRAMS + 1)
+    edits = [bench.some[place * kind.size:][:kind.size] for place in places]
+    assert bench.run(*streams) == well(*map(kind.dump_edit, edits))
+    assert bench.saved() == (bench.some[:PROGRAMS * kind.size]
+                             + b''.join(edits) + SET)
 
 
 def check_pro_moves(bench):
@@ -275,7 +282,8 @@ def check_pro_moves(bench):
     if bench.kind is PRO:
         # "amp model up to 31, and controller 9 to byte 35 by v/2"
         edit[8], edit[35] = 0x1F, 0x7F // 2
-    assert bench.saved() == bytes(PROGRAMS * bench.kind.size) + edit + SET
+    assert bench.saved() == (bytes(PROGRAMS * bench.kind.size) + edit
+                             + bench.zero + SET)
 
 
 def check_other_device(bench):
@@ -305,27 +313,70 @@ def check_exchanged(bench):
 
 
 def check_kept(bench):
-    """What one run stored, the next one sends, on either socket."""
+    """What one run stored, the next one sends: programs to both players."""
     kind, one, other = bench.kind, bench.one, bench.other
     edit = kind.dump_edit(other)
+    file = bytes(35 * kind.size) + one + bench.zero + other + SET
     assert bench.run(kind.dump(0x23, one), edit) == well(b'', b'')
-    assert bench.saved() == bytes(35 * kind.size) + one + other + SET
-    assert (bench.run(kind.ask_edit(), kind.ask(0x23))
-            == well(edit, kind.dump(0x23, one)))
-    assert bench.saved() == bytes(35 * kind.size) + one + other + SET
+    assert bench.saved() == file
+    program = kind.dump(0x23, one)
+    assert (bench.run(kind.ask(0x23) + kind.ask_edit(),
+                      kind.ask_edit() + kind.ask(0x23))
+            == well(program + kind.dump_edit(bench.zero), edit + program))
+    assert bench.saved() == file
     assert not bench.new.exists()
 
 
-def check_without_marks(bench):
-    """A programs file of an earlier version is read as all marks set."""
-    kind, memory = bench.kind, bench.some[:bench.kind.memory]
-    programs, edit = memory[:-kind.size], memory[-kind.size:]
-    bench.programs.write_bytes(memory)
-    assert (bench.run(kind.ask_all(), kind.ask_edit())
-            == well(kind.dump_all(programs), kind.dump_edit(edit)))
-    assert bench.saved() == memory
-    assert bench.run(kind.dump(0, bench.one), b'') == well(b'', b'')
-    assert bench.saved() == bench.one + memory[kind.size:] + SET
+def check_duo(bench):
+    """Each player's edit buffer is their own; the programs are both's."""
+    kind, one, other = bench.kind, bench.one, bench.other
+    programs = bench.some[:PROGRAMS * kind.size]
+    bench.programs.write_bytes(bench.some)
+    # "v/2: 13>9"; "13>4 .. by v/2": a move, into its player's buffer alone
+    drive = 4 if kind is BASS else 9
+    moved = [changed(data, drive, value // 2)
+             for data, value in ((one, 0x7F), (other, 0x10))]
+    assert (bench.run(kind.dump_edit(one) + b'\xB0\x0D\x7F'
+                      + kind.ask_edit(),
+                      kind.dump_edit(other) + b'\xB0\x0D\x10'
+                      + kind.ask_edit())
+            == well(*map(kind.dump_edit, moved)))
+    assert bench.saved() == programs + b''.join(moved) + SET
+    for player, before in enumerate(moved):
+        # what the other sends of these leaves this player's buffer
+        streams = [kind.ask_edit(), kind.ask_edit()]
+        streams[1 - player] = (kind.dump_edit(kind.program(20 + player))
+                               + b'\xB0\x0D\x33\xC0\x07')
+        ran = bench.run(*streams)
+        assert ran.status == 0 and ran.replies[player] == kind.dump_edit(
+            before), ran
+        assert bench.saved_program(PROGRAMS + player) == before
+        assert bench.saved()[:PROGRAMS * kind.size] == programs
+        bench.programs.write_bytes(programs + b''.join(moved) + SET)
+
+
+def check_earlier(bench):
+    """A file of one player, with or without marks, is read and made new."""
+    kind, size = bench.kind, bench.kind.size
+    memory = bench.some[:-len(SET) - size]
+    programs, edit = memory[:-size], memory[-size:]
+    # programs and the edit buffer, then as many marks or none
+    clear = b'\1\0' + SET[2:PROGRAMS] + b'\0'
+    for marks in b'', SET[:PROGRAMS + 1], clear:
+        sent = kind.short if marks is clear and kind is not BASS else bytes
+        bench.programs.write_bytes(memory + marks)
+        assert (bench.run(kind.ask_all() + kind.ask_edit(), kind.ask_edit())
+                == well(kind.dump_all(sent(programs))
+                        + kind.dump_edit(sent(edit)),
+                        kind.dump_edit(bench.zero)))
+        assert bench.saved() == memory + marks
+        assert bench.run(kind.dump(0, bench.one), b'') == well(b'', b'')
+        # player two's buffer is fresh, and its mark is set
+        assert bench.saved() == (bench.one + memory[size:] + bench.zero
+                                 + (marks or SET[:-1]) + b'\1')
+        assert bench.run(b'', kind.dump_edit(bench.other)) == well(b'', b'')
+        assert bench.saved() == (bench.one + memory[size:] + bench.other
+                                 + (marks or SET[:-1]) + b'\1')
 
 
 def check_short(bench):
@@ -337,7 +388,8 @@ def check_short(bench):
     assert bench.run(dump, edit) == well(b'', b'')
     # "A short dump sets the spare byte to 0 and clears the mark."
     programs = one + b'\0' + bench.some[size:PROGRAMS * size]
-    file = programs + other + b'\0' + b'\0' + SET[1:PROGRAMS] + b'\0'
+    edits = bench.some[PROGRAMS * size:][:size] + other + b'\0'
+    file = programs + edits + b'\0' + SET[1:PROGRAMS] + b'\1\0'
     assert bench.saved() == file
     # "an all programs dump is long only if all 36 marks are set"
     every = kind.dump_all(kind.short(programs))
@@ -348,8 +400,11 @@ def check_short(bench):
     long = kind.dump(0, bench.one)
     every = kind.dump_all(bench.one + programs[size:])
     assert bench.run(long + kind.ask_all(), b'') == well(every, b'')
-    assert bench.saved() == (bench.one + programs[size:] + other + b'\0'
-                             + SET[:PROGRAMS] + b'\0')
+    assert bench.saved() == (bench.one + programs[size:] + edits
+                             + SET[:PROGRAMS] + b'\1\0')
+    # "Single dumps go out in the length their mark says": each player's
+    assert (bench.run(kind.ask_edit(), kind.ask_edit())
+            == well(kind.dump_edit(edits[:size]), edit))
 
 
 def check_short_all(bench):
@@ -359,7 +414,8 @@ def check_short_all(bench):
     assert bench.run(b'', every) == well(b'', b'')
     programs = bytearray(bench.every)
     programs[kind.size - 1::kind.size] = bytes(PROGRAMS)
-    assert bench.saved() == programs + bench.zero + bytes(PROGRAMS) + b'\1'
+    assert bench.saved() == (programs + bench.zeros + bytes(PROGRAMS)
+                             + PLAYERS * b'\1')
     assert (bench.run(kind.ask_all(), kind.ask_edit())
             == well(every, kind.dump_edit(bench.zero)))
 
@@ -436,14 +492,14 @@ def check_apart(bench):
     for run in (bench.run, bench.run_piped):
         assert run(stream0, stream1) == well(replies0, replies1)
         assert bench.saved() == b''.join(map(kind.program,
-                                             range(36))) + bench.zero + SET
+                                             range(36))) + bench.zeros + SET
         bench.programs.unlink()
 
 
 def check_long(bench):
     """Of two long dumps at once, one stands whole at any time."""
-    kind, ends = bench.kind, (bench.every + bench.zero + SET,
-                              bench.every_other + bench.zero + SET)
+    kind, ends = bench.kind, (bench.every + bench.zeros + SET,
+                              bench.every_other + bench.zeros + SET)
     dumps = kind.dump_all(bench.every), kind.dump_all(bench.every_other)
     # real-time bytes, so that the same place comes at different times
     streams = (dumps[0] + kind.ask_all(),
@@ -471,7 +527,7 @@ def check_mixed(bench):
     assert out1.read(len(first)) == first
     in1.close()
     assert bench.end(box).status == 0
-    assert bench.saved() == bench.every + bench.zero + SET
+    assert bench.saved() == bench.every + bench.zeros + SET
 
 
 def fill(bench):
@@ -527,7 +583,7 @@ def check_signal_when_stuck(bench):
     box, *_ = fill(bench)
     box.send_signal(signal.SIGTERM)
     assert bench.end(box).status == 0
-    assert bench.saved() == bench.every + bench.zero + SET
+    assert bench.saved() == bench.every + bench.zeros + SET
 
 
 def check_signal_when_busy(bench):
@@ -551,7 +607,7 @@ def check_power_cut(bench):
     in1.write(kind.dump(9, bench.other))
     bench.wait_until_saved(9, bench.other)
     in0.write(bytes.fromhex('B0 0D 7F') + kind.dump(10, bench.one)[:-1])
-    while bench.saved_program(PROGRAMS) == bench.zero:  # the edit buffer
+    while bench.saved_program(PROGRAMS) == bench.zero:  # player one's move
         time.sleep(0.02)
     box.kill()
     box.wait()
@@ -641,21 +697,30 @@ def expect_refused(bench, file, *numbers):
     assert sorted(bench.folder.iterdir()) == [*bench.inputs, bench.programs]
 
 
+def lengths(kind):
+    """Return the lengths of a programs file, that of today first."""
+    slots = PROGRAMS + PLAYERS
+    return (slots * kind.size + slots, (slots - 1) * kind.size + slots - 1,
+            (slots - 1) * kind.size)
+
+
 def check_wrong_length(bench):
     """A programs file of another length is refused."""
-    own, whole = bench.kind.memory, len(bench.some)
-    others = {kind.memory for kind in KINDS} - {own}
-    others |= {other + len(SET) for other in others}
-    for length in (0, 1, own - 1, own + 1, whole - 1, whole + 1, 2 * own,
-                   *others):
-        expect_refused(bench, pattern(length, 9), length, whole, own)
+    own = lengths(bench.kind)
+    wrong = {0, 1, bench.kind.memory, 2 * own[0]}
+    wrong |= {length + more for length in own for more in (-1, 1)}
+    wrong |= {length for kind in KINDS for length in lengths(kind)}
+    for length in wrong - {*own}:
+        expect_refused(bench, pattern(length, 9), length, *own)
 
 
 def check_wrong_mark(bench):
     """A programs file with a mark that is neither 0 nor 1 is refused."""
-    for place, mark in ((0, 2), (17, 0xFF), (35, 2), (36, 0x80)):
+    for place, mark in ((0, 2), (17, 0xFF), (35, 2), (36, 0x80), (37, 2)):
         file = changed(bench.some, bench.kind.memory + place, mark)
         expect_refused(bench, file, place, mark, 0, 1)
+    earlier = bench.some[:-len(SET) - bench.kind.size] + SET[2:]
+    expect_refused(bench, earlier + b'\2', PROGRAMS, 2, 0, 1)
 
 
 def check_cannot_load(bench):
@@ -694,7 +759,7 @@ def check_cannot_move(bench):
     ran = bench.end(bench.start(bench.programs, bench.inputs[0], *rest))
     assert failed_at(ran, '/dev/full'), ran
     assert ran.replies[1] == replies
-    assert bench.saved() == one + other + bytes(35 * kind.size) + SET
+    assert bench.saved() == one + other + bytes(36 * kind.size) + SET
     ran = bench.end(bench.start(bench.programs, bench.folder, *rest))
     assert failed_at(ran, bench.folder), ran
     assert ran.replies[1] == replies
@@ -755,7 +820,7 @@ def check_fault(bench):
 
 
 EACH = (check_bench_case, check_program_change, check_pro_moves,
-        check_other_device, check_kept, check_without_marks,
+        check_other_device, check_kept, check_duo, check_earlier,
         check_marks_left, check_refused, check_apart, check_long,
         check_mixed, check_unread, check_signal, check_signal_when_stuck,
         check_signal_when_busy, check_power_cut, check_seldom, check_waits,

@@ -3,8 +3,8 @@
 #include <costerbloom.h>
 #include <system.h>
 
-enum { MESSAGE_ROOM = 8192, MEMORY_ROOM = 3000, MARKS_ROOM = 40, BUFFER_ROOM = 5800, AT_ONCE = 65536 };
-enum { MEMORY, RECEIVE, REPLY = 3, MARKS, BUFFERS };
+enum { MESSAGE_ROOM = 8192, MEMORY_ROOM = 3100, MARKS_ROOM = 40, BUFFER_ROOM = 5800, AT_ONCE = 65536 };
+enum { MEMORY, RECEIVE, REPLY = 3, MARKS, PROGRAMS, OWN, LENT };
 enum { TAKEN = 0, REPLIED = 2 };
 
 /* What the player keeps, "all zero at first" but for the marks, "all 1 at first". */
@@ -12,12 +12,16 @@ static uint8_t message[MESSAGE_ROOM];
 static size_t message_length;
 static uint8_t memory[MEMORY_ROOM], marks[MARKS_ROOM], receive[2][BUFFER_ROOM], reply[BUFFER_ROOM];
 static costerbloom_receiver receivers[2];
-static uint32_t controller, kind;
+static uint32_t controller, player, kind;
 static uint64_t calls;
 static uint8_t channel, omni, revision[4] = {0x30, 0x31, 0x30, 0x30};
-static const size_t rooms[BUFFERS] = {MEMORY_ROOM, BUFFER_ROOM, BUFFER_ROOM, BUFFER_ROOM, MARKS_ROOM};
-static size_t lent[BUFFERS] = {COSTERBLOOM_POD_MEMORY, COSTERBLOOM_POD_LONGEST, COSTERBLOOM_POD_LONGEST,
-    COSTERBLOOM_POD_LONGEST, COSTERBLOOM_MARKS};
+/* How much is lent of each buffer; of the screen's two, which lie in memory, the end of the one and where the other
+ * begins. */
+static const size_t rooms[LENT] = {
+    MEMORY_ROOM, BUFFER_ROOM, BUFFER_ROOM, BUFFER_ROOM, MARKS_ROOM, MEMORY_ROOM, MEMORY_ROOM};
+static size_t lent[LENT] = {COSTERBLOOM_POD_MEMORY, COSTERBLOOM_POD_LONGEST, COSTERBLOOM_POD_LONGEST,
+    COSTERBLOOM_POD_LONGEST, COSTERBLOOM_MARKS, COSTERBLOOM_EDIT_OF(COSTERBLOOM_POD_PROGRAM, COSTERBLOOM_PLAYER_ONE),
+    COSTERBLOOM_EDIT_OF(COSTERBLOOM_POD_PROGRAM, COSTERBLOOM_PLAYER_ONE)};
 
 /* "A script is a run of 4-byte commands" */
 typedef struct {
@@ -139,7 +143,7 @@ static void feed(uint32_t socket)
 
 static void whole(void)
 {
-    print_answer('W', costerbloom_whole(message, message_length, kind, channel, omni, revision[0], revision[1],
+    print_answer('W', costerbloom_whole(message, message_length, player, kind, channel, omni, revision[0], revision[1],
                           revision[2], revision[3], memory, lent[MEMORY], marks, lent[MARKS], reply, lent[REPLY]));
     calls++;
 }
@@ -151,8 +155,8 @@ static void move_all(void)
     size_t count = message_length / 2;
     for (size_t i = 0; i < count; i++)
         moves[i] = (costerbloom_move){message[2 * i], message[2 * i + 1]};
-    uint64_t answer = costerbloom_moves(moves, count, kind, channel, omni, revision[0], revision[1], revision[2],
-        revision[3], memory, lent[MEMORY], reply, lent[REPLY]);
+    uint64_t answer = costerbloom_moves(moves, count, player, kind, channel, omni, revision[0], revision[1],
+        revision[2], revision[3], memory, lent[MEMORY], reply, lent[REPLY]);
     print_answer('V', answer);
     if ((answer & 0xFF) == TAKEN)
         print_hex('n', reply, count);
@@ -167,13 +171,50 @@ static void scale(uint32_t value)
 
 static void back(void)
 {
-    print_value('D', costerbloom_back(controller, kind, memory, lent[MEMORY]));
+    print_value('D', costerbloom_back(controller, player, kind, memory, lent[MEMORY]));
     calls++;
 }
 
 static void amp(uint32_t model)
 {
     print_value('G', costerbloom_amp(model, kind));
+    calls++;
+}
+
+/* A part that lies elsewhere than it must could show the right bytes, or lead out of what is lent: it is not read. */
+static _Noreturn void misplaced(void)
+{
+    static const char said[] = "play: the screen's part is not where it must be, at call";
+    flush();
+    write(STANDARD_ERROR, said, sizeof said - 1);
+    print_field(calls);
+    print('\n');
+    write(STANDARD_ERROR, printed, printed_length);
+    _exit(1);
+}
+
+/* "the programs that X lends are the first n bytes of memory", "the own buffer that X lends is memory from place n on
+ * to its end". The part begins where the own buffer does, or so many parts of its length behind the programs' begin,
+ * and ends inside; after a refusal it begins where the programs do, and is empty. */
+static void screen(uint32_t own)
+{
+    const uint8_t *buffer = memory + lent[OWN];
+    costerbloom_part part = {reply, 1}; /* another than any that is handed out */
+    uint64_t answer = costerbloom_screen(
+        &part, controller, own, player, kind, memory, lent[PROGRAMS], buffer, MEMORY_ROOM - lent[OWN]);
+    _Bool of_own = answer == TAKEN && own != 0;
+    size_t before = answer == TAKEN && own == 0 ? controller * part.length : 0;
+    size_t room = of_own ? MEMORY_ROOM - lent[OWN] : lent[PROGRAMS];
+    if (part.bytes != (of_own ? buffer : memory) + before || before + part.length > room)
+        misplaced();
+    print('X');
+    print_field(calls);
+    print_field(answer); /* with bits 8 and up, which must be 0 */
+    print_field(part.length);
+    print_field(digest(part.bytes, part.length));
+    print('\n');
+    if (answer == TAKEN)
+        print_hex('x', part.bytes, part.length);
     calls++;
 }
 
@@ -215,10 +256,11 @@ static void play(command c)
         case 'A': marks[n % MARKS_ROOM] = c.v; break;
         case 'C': set_channel(c.a, c.b); break;
         case 'R': revision[c.a % 4] = c.v; break;
-        case 'Z': lent[c.v % BUFFERS] = least(n, rooms[c.v % BUFFERS]); break;
+        case 'Z': lent[c.v % LENT] = least(n, rooms[c.v % LENT]); break;
         case 'E': set_receiver(&receivers[c.b % 2], c.a % 8, c.v); break;
         case 'N': controller = controller << 16 | n; break;
         case 'T': kind = wide; break;
+        case 'O': player = wide; break;
         case 'W': whole(); break;
         case 'V': move_all(); break;
         case 'S': take(socket, c.v); break;
@@ -226,6 +268,7 @@ static void play(command c)
         case 'K': scale(wide); break;
         case 'D': back(); break;
         case 'G': amp(wide); break;
+        case 'X': screen(wide); break;
     }
 }
 
