@@ -16,16 +16,15 @@ pub(crate) type Marks = [u8; MARKS];
 
 pub(crate) type Buffer = [u8; SIZE];
 
-// How many bytes of each are lent; one above the buffer's own length is taken as that. The screen is lent two parts of
-// memory instead: the programs, and a player's own buffer.
+// How many bytes of each are lent; one above the buffer's own length is taken as that.
 pub(crate) struct Lent {
     pub(crate) memory: u16,
     pub(crate) receive0: u16,
     pub(crate) receive1: u16,
     pub(crate) reply: u16,
     pub(crate) marks: u16,
+    // The screen is lent two parts of memory: the programs at its start, and the own buffer from a place on to its end.
     pub(crate) programs: u16,
-    // Where the own buffer begins: it goes to the end of memory.
     pub(crate) own: u16,
 }
 

@@ -67,7 +67,8 @@ pub(crate) fn value(letter: u8, desk: Desk, value: u32) {
     io::write_all(STDOUT_FILENO, b"\n");
 }
 
-// The line of what the screen is handed, and a second with its bytes where it is not refused.
+// The line of what the screen is handed, and a second with its bytes where it is not refused. The remainder is for the
+// proof alone: no part is that long.
 pub(crate) fn shown(desk: Desk, number: u8, part: &[u8]) {
     io::write_all(STDOUT_FILENO, b"X");
     field(desk.calls);
