@@ -17,7 +17,7 @@ use Rattle.screen.specs.Parts.{Slice, Part, placeIn, lentPart, Shown, sh
 use Rattle.screen.specs.Screen.{screenTests, askedPart, screenOf}
 use Rattle.screen.proofs.Choices.{shared-inside, own-inside}
 
--- a slice begins where it begins
+-- the place at 0 is where the slice begins
 at-start : (slice : Slice) → placeIn slice 0 ≡ slice .ptr
 at-start slice = λ i. (slice .ptr .0, zero-add (slice .ptr .1) i)
 

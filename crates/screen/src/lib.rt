@@ -9,7 +9,7 @@ use programs::PROGRAMS;
 // The highest program.
 const LAST: u32 = 0x23;
 
-// What the screen is handed by the tests' answer.
+// What the tests answer.
 enum Choice {
     // Nothing, with the number of the refusal.
     Refused(u8),
@@ -49,8 +49,8 @@ pub fn screen<'a>(
     }
 }
 
-// The same for a caller that cannot take a part as the result, as C: it lends the place where the part is written, with
-// an empty part in it, and the number is the result.
+// The same for a caller that cannot take a part as the result, as C: it lends the place where the part is written, which
+// holds a valid part before, an empty one for instance, and the number is the result.
 pub fn show<'a>(
     part: &mut &'a [u8],
     program: u32,
