@@ -8,7 +8,7 @@ from itertools import chain, product
 
 from box import MEMORY, RECEIVE, REPLY
 from controllers import SELECTOR
-from kinds import ALL, AMP_BORDERS, EDIT, KINDS
+from kinds import ALL, AMP_BORDERS, EDIT, KINDS, ONE, TWO
 from messages import dump, edit_with, noise, request, wave, waves
 from moves import MOST
 from player import MESSAGE_ROOM
@@ -53,13 +53,13 @@ def add_counts(script):
 
 
 def add_list_order(script):
-    """Every choice of reasons for 33, 34, 32, 30 and 32 at once."""
+    """Every choice of reasons for 33, 34, 32, 30, 31 and 32 at once."""
     either = False, True
-    choices = product(either, either, either, (None, MEMORY), either)
-    for many, no_room, no_kind, short, wrong_setting in choices:
+    choices = product(either, either, either, (None, MEMORY), either, either)
+    for many, no_room, no_kind, short, no_player, wrong_setting in choices:
         count = MOST + 1 if many else MOST
         script.lend(REPLY, count - 1 if no_room else count)
-        spoil(script, no_kind, short)
+        spoil(script, no_kind, short, no_player)
         if wrong_setting:
             script.settings(16, 0)
         script.moves(wave(3, 2 * count))
@@ -140,14 +140,17 @@ def add_among(script):
     given = dump(kind, EDIT, noise(9, kind.halves))
     script.feed(0, given[:80])
     script.send_hex(1, 'B0 13 02 37')
-    # byte 46 changes under a waiting controller
+    # byte 46 changes under a waiting controller, if it is its player's
+    script.moves_hex('13 05')
+    script.turn_to(TWO)
     script.moves_hex('13 01')
     script.send_hex(1, '7F 37')
     script.moves_hex('13 02 0D 11')
     script.send_hex(1, '7F C0 01 C0')
     script.moves_hex('0C 05 0D 22')
     script.send_hex(1, '02 B0')
-    # the dump is stored over the list's moves, and moved again
+    # the dump is stored over its player's moves, and moved again
+    script.turn_to(ONE)
     script.feed(0, given[80:-1])
     script.moves_hex(EVERY_NUMBER)
     script.send_hex(0, 'F7')
