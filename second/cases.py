@@ -872,7 +872,7 @@ def check_as_pod():
 
 # Req 08
 
-EACH = ((0, 1), (1, 0))  # a player, and the other
+PAIRS = ((0, 1), (1, 0))  # a player, and the other
 # "31 after 30 wherever a named player is not 0 or 1"
 WRONG = (*NO_PLAYERS, 65536, 65537, 2**32 - 1)
 
@@ -904,7 +904,7 @@ def check_own():
              dict.fromkeys(range(80), 0xA7)),
             (BASS, 'C0 06', 1, dict.fromkeys(range(80), 6)),
             (POD, 'C0 06', 21, {})):
-        for player, _ in EACH:
+        for player in (0, 1):
             box = numbered_box(kind)
             wanted = bytearray(box.memory)
             for place, byte in changes.items():
@@ -930,7 +930,7 @@ def check_sent():
 def check_named():
     """Lists and values shown back, of each player's own buffer."""
     for kind, place in ((POD, 9), (BASS, 4), (PRO, 9)):
-        for player, other in EACH:
+        for player, other in PAIRS:
             box, numbers = Box(kind), bytearray(1)
             case = f'{kind.word}, player {player}'
             expect(case, carry_out(box, [(13, 127)], numbers, player), 0)
@@ -943,7 +943,7 @@ def check_named():
 
 def check_rotary():
     """A rotary move under a flanger, beside a player who selected rotary."""
-    for player, other in EACH:
+    for player, other in PAIRS:
         box = Box(POD)
         send(box, 'B0 13 05', player)
         send(box, 'B0 13 02', other)
@@ -961,7 +961,7 @@ def check_rotary():
 
 def check_shared():
     """A program that one player stores is the other's too."""
-    for player, other in EACH:
+    for player, other in PAIRS:
         box = Box(POD)
         send(box, f'{HEAD} 01 00 23 00 {"0A 07" * 71} F7', player)
         expect('shared', send(box, f'{HEAD} 00 00 23 F7', other),

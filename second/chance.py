@@ -215,9 +215,9 @@ def add_calls(script, chance):
 
 
 def ask_screen(script, chance):
-    """Ask for a screen's part, a program's most often."""
+    """Ask for a screen's part: a program, or the own buffer."""
     script.screen(chance.choice((*range(PROGRAMS), *NO_PROGRAMS)),
-                  chance.choice((0, 0, *OWNS)))
+                  chance.choice((0, chance.choice(OWNS))))
 
 
 def turn_settings(script, chance):
@@ -328,7 +328,7 @@ def turn_stale(script, chance):
 def turn_socket(script, chance):
     """Send bytes on no socket, or on what may be one."""
     wide = chance.randrange(3) + (chance.randrange(256) << 24)
-    script.send(chance.choice((*NO_SOCKETS, wide)), 
+    script.send(chance.choice((*NO_SOCKETS, wide)),
                 asking(script.kind, chance)[:4])
 
 

@@ -12,7 +12,7 @@ from messages import (dump, edit_with, identity, in_each_length, noise,
                       request, wave, waves)
 
 PAIRS = ((ONE, TWO), (TWO, ONE))  # a player, and the other
-# An effect selected and a move that wants it, and moves of all kinds.
+# An effect selected and a move that wants it, among others.
 KNOBS = ('0D 11 13 02 37 7F 12 22', '0D 44 13 05 3A 7F 0C 05')
 
 
@@ -21,8 +21,9 @@ def ask_both(script):
     asked = request(script.kind, EDIT)
     for player in PLAYERS:
         script.send(player, asked)
-        script.turn_to(player)
+        script.name(player)
         script.whole(asked)
+    script.name_back()
 
 
 def mix(script, *streams):
@@ -60,10 +61,10 @@ def add_knobs(script):
     mix(script, *(bytes.fromhex(f'B0 {text}') for text in KNOBS))
     ask_both(script)
     # byte 46 of one player selects nothing for the other
-    for player, text in zip((TWO, ONE), KNOBS):
+    for player in PLAYERS:
         script.turn_to(player)
         script.moves_hex('37 00 3A 00 0D 7F')
-        script.send_hex(player, '37 01 3A 01')
+        script.send_hex(player, 'B0 37 01 3A 01')
 
 
 def add_backs(script, controllers):
@@ -96,7 +97,7 @@ def add_one_programs(script):
 
 
 def add_edges(script):
-    """Each edit buffer's first and last byte, sent and shown back."""
+    """Each edit buffer's first and last byte."""
     for player in PLAYERS:
         script.turn_to(player)
         for place, byte in ((0, 0xC1), (script.kind.size - 1, 0xC2)):

@@ -10,14 +10,16 @@ likewise with the players exchanged."
 
 A duo has one player's bytes, panel messages and lists that name either
 player, screens of the first, and dumps that store programs from the other. A
-run plays all of these in one order; before each comes some of what the other
-player sends at will in that run (`Duo.at_will`): knobs, edit dumps, program
-changes, requests, cut and refused messages, garbage, and real-time bytes in
-the dumps too. A dump that is refused stores nothing, and is at will.
+run makes all these calls in one order, a dump's at its last byte; between
+them comes what the other player sends at will in that run (`Duo.at_will`):
+knobs, edit dumps, program changes, requests, cut and refused messages,
+garbage, and real-time bytes in the dumps too. A dump that is refused stores
+nothing, and is at will.
 
 Compared are the player's calls, those that name it too, each by its number,
 what it is handed and the length of that (a reply, the numbers of a list, a
 screen's part), and at the end its edit buffer, the programs and their marks.
+The numbers of the other's dumps that store programs are compared as well.
 """
 
 from box import STORED, Box
@@ -63,14 +65,22 @@ def ticking(message, chance):
     """Return a message with real-time bytes anywhere."""
     ticks = bytearray(message)
     for _ in range(chance.randrange(4)):
-        ticks.insert(chance.randrange(len(ticks)), chance.choice(REAL_TIME))
-    return ticks
+        ticks.insert(chance.randrange(len(ticks) + 1),
+                     chance.choice(REAL_TIME))
+    return bytes(ticks)
+
+
+def pieces(stream, count, chance):
+    """Return bytes cut into so many pieces, anywhere."""
+    cuts = sorted(chance.choices(range(len(stream) + 1), k=count - 1))
+    return [stream[start:end]
+            for start, end in zip((0, *cuts), (*cuts, len(stream)))]
 
 
 class Duo(Opening):
-    """What is the same in two runs: how they begin, and (what, whose, data).
+    """What is the same in two runs: how they begin, and their calls.
 
-    The data of a dump is all of it; its last byte's place is its own.
+    A call is what it is, whose and its data.
     """
 
     def __init__(self, kind, player, chance):
@@ -99,28 +109,29 @@ class Duo(Opening):
     def run(self, chance):
         """Return the script of a run, and what its calls are."""
         script, named = self.begin()
-        dumps = iter([data for what, _, data in self.calls if what == DUMP])
-        coming = self.at_will(dumps, chance)
-        for place, (what, player, data) in enumerate(self.calls):
-            count = len(coming) if what == DUMP else min(len(coming), (
-                chance.choice((0, 0, 1, 5, 50))))
-            script.send(self.other, coming[:count])
-            del coming[:count]
+        for place, (piece, (what, player, data)) in enumerate(zip(
+                self.between(chance), self.calls)):
+            script.send(self.other, piece)
             add_call(script, what, player, data)
-            named += [None] * count
-            named.append((what, place) if player == self.player else None)
-            if what == DUMP:
-                coming = self.at_will(dumps, chance)
-        script.send(self.other, coming)
-        return bytes(script.commands), named + [None] * len(coming)
+            named += [None] * len(piece)
+            named.append((what, place) if what == DUMP
+                         or player == self.player else None)
+        return bytes(script.commands), named
 
-    def at_will(self, dumps, chance):
-        """Return the other's bytes up to the next dump's last, if any."""
-        stream = bytearray(storing_none(self.kind, chance)
-                           + some_edit(self.kind, chance))
-        for given in dumps:
-            return stream + ticking(given[:-1], chance)
-        return stream + storing_none(self.kind, chance)
+    def between(self, chance):
+        """Yield the other's bytes before each call."""
+        start = 0
+        for end, (what, _, data) in enumerate(self.calls, 1):
+            if what == DUMP or end == len(self.calls):
+                stream = self.at_will(data if what == DUMP else b'', chance)
+                yield from pieces(stream, end - start, chance)
+                start = end
+
+    def at_will(self, given, chance):
+        """Return the other's bytes up to the last of a dump, or of none."""
+        return (storing_none(self.kind, chance) + some_edit(self.kind, chance)
+                + storing_none(self.kind, chance)
+                + ticking(given[:-1], chance))
 
     def seen(self, named, lines):
         """Return what the player is given, its buffer and the programs."""
@@ -172,9 +183,8 @@ def play_duo(kind, player, chance, play):
     Behind these is the other player's buffer of each run, in a pair.
     """
     duo = Duo(kind, player, chance)
-    runs = duo.run(chance), duo.run(chance)
-    lines = [play(script) for script, _ in runs]
-    return (f'what player {player} is given', *(script for script, _ in runs),
-            *(duo.seen(named, found)
-              for (_, named), found in zip(runs, lines)),
-            [*map(duo.others, lines)])
+    (one, named), (two, again) = duo.run(chance), duo.run(chance)
+    lines, other_lines = play(one), play(two)
+    return (f'what player {player} is given', one, two,
+            duo.seen(named, lines), duo.seen(again, other_lines),
+            (duo.others(lines), duo.others(other_lines)))

@@ -18,7 +18,7 @@ PROGRAMS_LENT, OWN_LENT = len(ROOMS), len(ROOMS) + 1
 REFUSED = 65536      # "the value, or 65,536 + the refusal number"
 VALUE = 'value'      # stands for all values among the numbers given
 PART = 'part'        # stands for 0 where a screen is handed a part
-NAMED = 'player 31'  # stands for 31 where no socket's number is wrong
+WRONG_PLAYER = 'player 31'  # stands for 31 where a player is named
 MOVE = 'n'           # stands for a call's letter where a move is counted
 # a row for each answer to whether an amp model is known
 KNOWN = {1: 'known', 0: 'not known'}
@@ -28,7 +28,7 @@ MOVED = {number: f'move {number}' for number in (
 # "Numbers the box returns", a row for values, those of amp models, of moves,
 # of screens and of wrong players
 ROWS = (*range(5), *range(10, 23), *range(30, 35), 40, VALUE,
-        *KNOWN.values(), *MOVED.values(), PART, NAMED)
+        *KNOWN.values(), *MOVED.values(), PART, WRONG_PLAYER)
 # "stored + 2^16 x inside + 2^24 x over + 2^32 x running + 2^40 x held + 2^48
 # x waiting"
 PLACES = {'stored': 0, 'inside': 16, 'over': 24, 'running': 32, 'held': 40,
@@ -155,11 +155,13 @@ class Replay:
         self.box.settings.revision[a % 4] = v
 
     def lend(self, a, b, v):
-        """Do Z: "the first n bytes are lent", "at most its own length"."""
+        """Do Z: "by v % 7, from now on"."""
         what, n = v % 7, a + 256 * b
         if what in self.screen_lent:
+            # "n at most 3,100"
             self.screen_lent[what] = min(n, MEMORY_ROOM)
         else:
+            # "the first n bytes are lent, at most its own length"
             self.box.lent[what] = min(n, ROOMS[what])
 
     def set_receiver(self, a, b, v):
@@ -229,7 +231,7 @@ class Replay:
         return line, tabbed('n', noted.hex())
 
     def screen(self, a, b, v):
-        """Do X: "asks for the screen's part"."""
+        """Do X: "the part that the screen is handed"."""
         programs = self.box.memory[:self.screen_lent[PROGRAMS_LENT]]
         buffer = self.box.memory[self.screen_lent[OWN_LENT]:]
         number, part = self.box.screen(self.controller, widened(a, b, v),
@@ -244,7 +246,7 @@ class Replay:
     def count(self, letter, number):
         """Count a call and what it gave; return its count."""
         if number == NO_PLAYER and letter != 'S':
-            number = NAMED
+            number = WRONG_PLAYER
         self.given[self.box.kind_number, letter, number] += 1
         self.calls += 1
         return self.calls - 1

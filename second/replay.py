@@ -22,7 +22,7 @@ from brief import make_brief
 from kinds import KINDS
 from lent import make_lent
 from panel import make_whole
-from player import (KNOWN, MOVED, NAMED, PART, ROWS, VALUE, play, rows_of,
+from player import (KNOWN, MOVED, WRONG_PLAYER, PART, ROWS, VALUE, play, rows_of,
                     tabbed, tally)
 from sockets import make_sockets
 
@@ -31,9 +31,9 @@ SCRIPTS = {
     'brief': (make_brief, set()),
     'whole': (make_whole, {0, 3, 4, *range(17, 22), 30, 31, 33, 34, 40,
                            VALUE, *KNOWN.values(), *MOVED.values(), PART,
-                           NAMED}),
+                           WRONG_PLAYER}),
     'sockets': (make_sockets, {*range(30, 35), 40, VALUE, *KNOWN.values(),
-                               PART, NAMED}),
+                               PART, WRONG_PLAYER}),
     'lent': (make_lent, {4, 12, 15, 16, 22}),
 }
 

@@ -8,6 +8,7 @@ from itertools import chain, product
 
 from box import MEMORY, RECEIVE, REPLY
 from controllers import SELECTOR
+from duo import ask_both
 from kinds import ALL, AMP_BORDERS, EDIT, KINDS, ONE, TWO
 from messages import dump, edit_with, noise, request, wave, waves
 from moves import MOST
@@ -136,12 +137,13 @@ def add_our_channel(script):
 
 def add_among(script):
     """Lists while both sockets have something half received."""
-    kind = script.kind
-    given = dump(kind, EDIT, noise(9, kind.halves))
+    given = dump(script.kind, EDIT, noise(9, script.kind.halves))
     script.feed(0, given[:80])
     script.send_hex(1, 'B0 13 02 37')
-    # byte 46 changes under a waiting controller, if it is its player's
+    # byte 46 changes under a waiting controller: the other's, then its own
+    script.turn_to(ONE)
     script.moves_hex('13 05')
+    script.send_hex(1, '7F 37')
     script.turn_to(TWO)
     script.moves_hex('13 01')
     script.send_hex(1, '7F 37')
@@ -159,7 +161,7 @@ def add_among(script):
     script.send_hex(1, '0D 64 F0')
     script.moves_hex('0D 33')
     script.send_hex(1, 'F6 F7')
-    script.whole(request(kind, EDIT))
+    ask_both(script)
 
 
 def add_list_pieces(script, piece):

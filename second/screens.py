@@ -6,7 +6,7 @@ memory they already occupy".
 
 from itertools import product
 
-from kinds import ALL, EDIT, KINDS, ONE, PLAYERS, around
+from kinds import ALL, EDIT, KINDS, ONE, PLAYERS, TWO, around
 from messages import dump, noise, wave, waves
 from player import MEMORY_ROOM
 from switched import mend, spoil
@@ -22,8 +22,8 @@ def add_unlike(script):
     """Fill memory, so that each program and edit buffer differs."""
     kind = script.kind
     script.whole(dump(kind, ALL, waves(kind, 22)))
-    for player, data in ((1, noise(23, kind.halves)),
-                         (0, wave(23, kind.halves))):
+    for player, data in ((TWO, noise(23, kind.halves)),
+                         (ONE, wave(23, kind.halves))):
         script.turn_to(player)
         script.whole(dump(kind, EDIT, data))
 
@@ -40,7 +40,7 @@ def add_shown(script, programs):
         script.turn_to(player)
         for program in (*programs, *NO_PROGRAMS):
             script.screen(program, 0)
-        # "program is then not looked at"
+        # whatever program is named beside it
         for program in (0, 35, 36, 0xFFFFFFFF):
             script.screen(program, *OWNS, 0)
     script.turn_to(ONE)

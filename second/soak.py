@@ -47,7 +47,7 @@ class Soak:
         self.printed = 0
         self.given = Counter()
         self.pairs = 0   # of runs of a duo
-        self.unlike = 0  # of these, where the other player's buffers differ
+        self.unlike = 0  # of these, with unlike buffers of the other player
 
     def compare(self, script):
         """Play a script both ways; return its lines where they are equal."""
@@ -94,9 +94,8 @@ class Soak:
         print(f'{self.scripts} scripts, {sum(letters.values())} calls, '
               f'{letters["S"]} bytes on sockets, {letters["V"]} lists with '
               f'{moves} moves carried out, {self.printed} bytes printed and '
-              f'compared, {self.pairs} pairs of a duo\'s runs, in '
-              f'{self.unlike} of which the other\'s buffer differs, '
-              f'{seconds:.0f} s')
+              f'compared, {self.pairs} pairs of runs of a duo, {self.unlike} '
+              f'with unlike buffers of the other player, {seconds:.0f} s')
         sys.stdout.writelines(histogram(self.given))
 
 

@@ -2,13 +2,12 @@
 
 A plan has a kind of box, a stream of bytes for each socket, the panel's
 messages and the lighting desk's lists of moves, each with the player that it
-names. It is played five times, from
-the same memory and marks and under the same settings: mixed in an order of
-finishing, mixed otherwise in the same order, mixed in another order, and for
-each of the two orders one message at a time. Both receivers start fresh, no
-call is turned away for what it lends or is set to, every call lends its own
-socket's receiver and buffer, and the settings stay, the kind too: demand 3's
-premises.
+names. It is played five times, from the same memory and marks and under the
+same settings: mixed in an order of finishing, mixed otherwise in the same
+order, mixed in another order, and for each of the two orders one message at a
+time. Both receivers start fresh, no call is turned away for what it lends or
+is set to, every call lends its own socket's receiver and buffer, and the
+settings stay, the kind too: demand 3's premises.
 
 A call is named by its source and its place there: the place of a byte in
 its socket's stream, of a message among the panel's or of a list among the
@@ -40,13 +39,12 @@ messages whole, one at a time, in the order their last bytes arrived." Req 08:
 over whole, naming its sender, a channel message is sent on its sender's
 socket with nothing between its bytes, a program change too. A list's moves
 are "sent one by one on our channel"; one above 127, which no wire carries, is
-a list for itself. What a
-socket finishes is found by box.py from that socket's bytes alone. Each
-finishing call has the same number, reply length and reply and leaves the same
-memory and marks (Req 06: "Demands 2 and 3 read both lengths and the marks"),
-a list what its last move leaves. "Unfinished and cut messages have no
-effect": they are left out there, and so are an empty list and one of too
-many moves, which is refused with 33.
+a list for itself. What a socket finishes is found by box.py from that
+socket's bytes alone. Each finishing call has the same number, reply length
+and reply and leaves the same memory and marks (Req 06: "Demands 2 and 3 read
+both lengths and the marks"), a list what its last move leaves. "Unfinished
+and cut messages have no effect": they are left out there, and so are an empty
+list and one of too many moves, which is refused with 33.
 """
 
 from typing import NamedTuple, Union
