@@ -11,12 +11,14 @@ use borrow.Author.Tests.{leb-true, le-leb}
 use Rattle.kinds.specs.declared.Kind.{Kind}
 use Rattle.kinds.specs.Kinds.{kindOf}
 use Rattle.programs.specs.declared.Player.{Player}
-use Rattle.programs.specs.Memory.{playerOf, editSlot, memorySize, markCount}
-use Rattle.programs.specs.Held.{Held, Edit}
-use Rattle.sockets.specs.Framer.{Message, Framer, Idle}
+use Rattle.programs.specs.Memory.{playerOf, editSlot, memorySize, markCount, partOf}
+use Rattle.programs.specs.Held.{Held, heldOf, Edit}
+use Rattle.framing.specs.declared.Receiver.{Receiver}
+use Rattle.framing.specs.Bytes.{stepOf}
+use Rattle.sockets.specs.Framer.{Happening, Nothing, Cut, Finished, Framer, Idle}
 use Rattle.sockets.specs.Calls.{Socket, S0, S1, Call, Byte, Direct, Finish, FromSocket, FromDirect, ifSame, handing}
-use Rattle.sockets.specs.Box.{CallsOf, SaidsOf, saidOf, heldAfter, finishedBy}
-use Rattle.sockets.specs.Promise.{socketNumber, socketOf}
+use Rattle.sockets.specs.Box.{LeftOf, CallsOf, SaidsOf, saidOf, heldAfter, finishedBy, happeningDoes}
+use Rattle.sockets.specs.Promise.{happeningOf, socketNumber, socketOf, stepDoes}
 use Rattle.sockets.specs.History.{WorldOf, lends, History, nothing, byte, direct, saidsAlong}
 use Rattle.sockets.specs.Demand.{Fresh}
 use Rattle.sockets.specs.Players.{Seen, Sent, Called, Stored, SeensOf, seenAfter, ownSaids, Isolated}
@@ -26,12 +28,13 @@ use Rattle.sockets.proofs.Unnoticed.{unnoticed}
 use Rattle.sysex.specs.declared.Settings.{Settings}
 use Rattle.carrying.specs.Carrying.{Outcome}
 use Rattle.podbox.specs.declared.Move.{Move}
-use Rattle.podbox.specs.Whole.{messageOrder}
-use Rattle.podbox.specs.Moves.{moveMessage}
-use Rattle.podbox.specs.Box.{socketPlayer, Given, Whole, Moves, Delivered, FromPanel, FromList, handsOf, boxRules, movesOf}
+use Rattle.podbox.specs.Whole.{messageOrder, handedDoes}
+use Rattle.podbox.specs.Box.{limit, socketPlayer, Given, Whole, Moves, Delivered, FromPanel, FromList, handsOf, Took, boxRules, takeOf, wholeOf, movesOf}
+use Rattle.podbox.proofs.Taking.{sender}
 use Rattle.demands.specs.Duo.{editIn, programsIn, storesPrograms, messageStores, names, senderOf, boxPlayers}
 use Rattle.demands.proofs.Named.{Firm, writeIn, write-named, write-firm, write-programs, write-beside, edit-programs, edit-beside}
 use Rattle.demands.proofs.Acts.{Effect, rests, edits, stores, Acts, message-acts, handed-acts}
+use Rattle.demands.proofs.Passed.{take-cases, whole-cases}
 use Rattle.demands.proofs.Sockets.{lawful, box-demand3}
 use Rattle.demands.proofs.ManyMoves.{every-list}
 
@@ -102,6 +105,12 @@ same-socket S0 S0 e = refl
 same-socket S0 S1 e = absurd (true≢false (sym e))
 same-socket S1 S0 e = absurd (true≢false (sym e))
 same-socket S1 S1 e = refl
+
+not-same : (p s : Socket) → (s ≡ p → ⊥) → ifSame p s true false ≡ false
+not-same S0 S0 differ = absurd (differ refl)
+not-same S0 S1 differ = refl
+not-same S1 S0 differ = refl
+not-same S1 S1 differ = absurd (differ refl)
 
 other-player : (p s : Socket) → ifSame p s true false ≡ false → socketPlayer s ≡ socketPlayer p → ⊥
 unfolding playerOf editSlot
@@ -239,3 +248,41 @@ module _ (kindNumber : ℕ) (settings : Settings) where
             (leb-true _ _ m, leb-true _ _ k)
         go true false m k = same-lists (λ firm. true≢false (sym (le-leb _ _ (firm .1)) ∙ k))
         go false u m k = same-lists (λ firm. true≢false (sym (le-leb _ _ (firm .0)) ∙ m))
+
+  -- "Controllers, program changes, edit dumps and edit requests act on the sender's own buffer": whatever is lent, a byte, a panel message and a list leave the
+  -- edit buffer of the player that they are not of, and its mark.
+  module _ (p : Socket) (held : Held) where
+    abbrev Left : Held → Type 0
+    Left after = editIn (kindOf kindNumber) (socketPlayer p) after ≡ editIn (kindOf kindNumber) (socketPlayer p) held
+
+    happening-left : Firm (kindOf kindNumber) held → (s : Socket) → ifSame p s true false ≡ false → (h : Happening)
+        → Left (happeningDoes (boxRules kindNumber settings) held s h .held)
+    happening-left firm s e Nothing = refl
+    happening-left firm s e Cut = refl
+    happening-left firm s e (Finished m) = kept-by p (FromSocket s m) held firm e
+
+    pub take-leaves : (socket : ℕ) → (socketOf socket ≡ p → ⊥) → (r : Receiver) (b : ℕ) (receive reply : List ℕ)
+        → Left (takeOf kindNumber settings socket r b held receive reply .held)
+    unfolding stepDoes
+    take-leaves socket differ r b receive reply =
+        take-cases kindNumber settings socket r b held receive reply (λ (l : Took). Left (l .held))
+        (λ _ _ _. refl)
+        (λ all. happening-left (leb-true _ _ (all .1 .0), leb-true _ _ (all .1 .1 .0)) (socketOf socket) (not-same p (socketOf socket) differ)
+        (happeningOf (stepOf (limit (kindOf kindNumber)) r b .event) receive))
+
+    pub whole-leaves : (playerNumber : ℕ) → (socketOf playerNumber ≡ p → ⊥) → (message reply : List ℕ)
+        → Left (wholeOf kindNumber settings playerNumber message held reply .held)
+    whole-leaves playerNumber differ message reply =
+        whole-cases kindNumber settings playerNumber message held reply (λ (l : LeftOf (boxRules kindNumber settings)). Left (l .held))
+        (λ _ _ _. refl)
+        (λ all. subst (λ (player : Player). Left (handedDoes (kindOf kindNumber) settings player message held .held)) (sender playerNumber)
+        (kept-by p (FromDirect (FromPanel (socketOf playerNumber) message)) held (leb-true _ _ (all .1 .0), leb-true _ _ (all .1 .1 .0))
+        (not-same p (socketOf playerNumber) differ)))
+
+    pub moves-leaves : (playerNumber : ℕ) → (socketOf playerNumber ≡ p → ⊥) → (moves : List Move) (numbers : List ℕ)
+        → Left (movesOf kindNumber settings playerNumber moves held numbers .held)
+    moves-leaves playerNumber differ moves numbers =
+        let alone = every-list kindNumber settings playerNumber moves held numbers .alone in
+        let bytes = alone .other-stays (socketPlayer p) (λ same. other-player p (socketOf playerNumber) (not-same p (socketOf playerNumber) differ) (sender playerNumber ∙ same)) in
+        let marks = alone .marks-stay in
+        (λ i. heldOf (bytes i) (partOf (editSlot (socketPlayer p)) 1 (marks i)))

@@ -13,8 +13,8 @@ use Rattle.programs.specs.declared.Player.{Player}
 use Rattle.programs.specs.declared.Player.the-variants as players
 use Rattle.programs.specs.Memory.{programCount, lastProgram, editSlot, editPlace, allSize, memorySize, markCount, partOf, putPart}
 use Rattle.programs.specs.Held.{Held, heldOf, Target, One, Edit, All, placeFor, countFor, slotFor, slotsFor, received, storeIn, putIn}
-use Rattle.programs.proofs.Players.{slot-inside, edit-inside}
-use Rattle.programs.proofs.Parts.{part-put, part-before, part-behind, part-over, part-in-part, put-length, put-same}
+use Rattle.programs.proofs.Players.{slot-inside, edit-inside, edit-apart}
+use Rattle.programs.proofs.Parts.{part-put, part-before, part-behind, part-over, part-in-part, put-length, other-part}
 use Rattle.carrying.proofs.Parts.{program-inside}
 use Rattle.demands.specs.Duo.{namedIn, editIn, programsIn}
 
@@ -139,18 +139,10 @@ module _ (kind : Kind) (player : Player) (held : Held) (firm : Firm kind held) w
 -- and the other player's
 pub edit-beside : (kind : Kind) (player other : Player) (held : Held) → Firm kind held → (named : Held) → Fills kind Edit named → (player ≡ other → ⊥)
     → editIn kind other (writeIn kind player Edit named held) ≡ editIn kind other held
-unfolding editSlot
-edit-beside kind players.One players.One held firm named fills differ = absurd (differ refl)
-edit-beside kind players.Two players.Two held firm named fills differ = absurd (differ refl)
-edit-beside kind players.One players.Two held firm named fills differ =
-    let memory = firm .0 in
-    let marks = firm .1 in
-    let bytes = part-behind (editPlace kind players.One) (sizeOf kind) (editPlace kind players.Two) (sizeOf kind) (named .memory) (held .memory) (omega arith) (fills .0) (omega arith) in
-    let own = part-behind (editSlot players.One) 1 (editSlot players.Two) 1 (named .marks) (held .marks) (omega arith) (fills .1) (omega arith) in
-    (λ i. heldOf (bytes i) (own i))
-edit-beside kind players.Two players.One held firm named fills differ =
-    let memory = firm .0 in
-    let marks = firm .1 in
-    let bytes = part-before (editPlace kind players.One) (sizeOf kind) (editPlace kind players.Two) (held .memory) (omega arith) (omega arith) (sizeOf kind) (named .memory) in
-    let own = part-before (editSlot players.One) 1 (editSlot players.Two) (held .marks) (omega arith) (omega arith) 1 (named .marks) in
+edit-beside kind player other held firm named fills differ =
+    let apart = edit-apart kind in
+    let last = place-behind kind players.Two held firm .1 in
+    let last-mark = slot-behind kind players.Two held firm .1 in
+    let bytes = other-part (editPlace kind) (sizeOf kind) (named .memory) (held .memory) (apart .1) last (fills .0) player other differ in
+    let own = other-part editSlot 1 (named .marks) (held .marks) (apart .0) last-mark (fills .1) player other differ in
     (λ i. heldOf (bytes i) (own i))
