@@ -21,6 +21,7 @@ pub mod Reasons
 pub mod Sockets
 pub mod ManyMoves
 pub mod Duo
+pub mod Screen
 pub mod Fed
 pub mod ToldApart
 pub mod AsTheBox

@@ -45,7 +45,7 @@ program-within kind player Edit h = absurd h
 program-within kind player All h = (omega arith, omega arith)
 
 -- a part of the front of a list
-of-front : (n place count : ℕ) (list : List ℕ) → place + count ≤ n → n ≤ length list → partOf place count (partOf 0 n list) ≡ partOf place count list
+pub of-front : (n place count : ℕ) (list : List ℕ) → place + count ≤ n → n ≤ length list → partOf place count (partOf 0 n list) ≡ partOf place count list
 of-front n place count list h fits =
     let from : 0 + place ≡ place = omega arith in
     part-in-part 0 n place count list (omega arith) h ∙ ap (λ (k : ℕ). partOf k count list) from

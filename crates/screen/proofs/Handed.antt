@@ -42,6 +42,10 @@ module _ (kindNumber program own player : ℕ) (programs buffer : Slice) where
   unfolding screenOf
   screen-cases P passed failed = tested-cases P tests _ _ passed (λ number f. failed number (never-0 number f))
 
+  -- with the number 0 no test fails
+  pub none-fails : handed .number ≡ 0 → AllHold tests
+  none-fails = screen-cases (λ (s : Shown). s .number ≡ 0 → AllHold tests) (λ all _. all) (λ number other e. absurd (other e))
+
   -- a refusal: no bytes, and they begin where the programs begin
   pub refused-empty : (handed .number ≡ 0 → ⊥) → (handed .part .bytes ≡ []) × (handed .part .place ≡ programs .ptr)
   refused-empty =
