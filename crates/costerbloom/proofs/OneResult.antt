@@ -6,6 +6,9 @@ use Rattle.ground.specs.Calls.{left}
 use Rattle.ground.proofs.OneResult.{one, left-one}
 use Rattle.programs.specs.Held.{Held, heldOf}
 use Rattle.framing.specs.declared.Receiver.{Receiver}
+use Rattle.screen.specs.Parts.{Slice, shown}
+use Rattle.screen.specs.Screen.{screenOf}
+use Rattle.screen.proofs.OneResult.{show-one}
 use Rattle.sockets.specs.Box.{took}
 use Rattle.sockets.proofs.OneResult.{took-one}
 use Rattle.sysex.specs.declared.Settings.{Settings}
@@ -36,3 +39,8 @@ costerbloom-back-one kindNumber playerNumber controller memory r s = one
 
 pub costerbloom-amp-one : (kindNumber model : ℕ) (r s : ℕ) → r ≡ ampNumber kindNumber model → s ≡ ampNumber kindNumber model → r ≡ s
 costerbloom-amp-one kindNumber model r s = one
+
+pub costerbloom-screen-one : (kindNumber program own playerNumber : ℕ) (programs buffer : Slice) (m n : ℕ) (r s : Slice)
+    → shown m r ≡ screenOf kindNumber program own playerNumber programs buffer → shown n s ≡ screenOf kindNumber program own playerNumber programs buffer
+    → (m ≡ n) × (r .ptr ≡ s .ptr) × (r .now ≡ s .now)
+costerbloom-screen-one kindNumber program own playerNumber programs buffer m n r s = show-one kindNumber program own playerNumber programs buffer m n r s

@@ -1,7 +1,8 @@
 -- What the screen is handed, by its number: no code's proof rests on these.
 use Prim.Native.Nat.{ℕ}
 use mathlib.Core.List.{List, []}
-use mathlib.Core.Path.{_≡_, refl, ap, _∙_}
+use mathlib.Core.Logic.{_↔_}
+use mathlib.Core.Path.{_≡_, refl, sym, ap, _∙_}
 use native.Mathlib.Omega.{arith}
 use native.Mathlib.Nat.{zero-add}
 use lib.Dec.{eqb}
@@ -10,7 +11,7 @@ use lib.Seq.{length-take-le}
 use borrow.Author.Tests.{eq-eqb, ne-eqb}
 use Rattle.ground.specs.Tests.{Test, AllHold, FirstToFail}
 use Rattle.ground.proofs.Tests.{by}
-use Rattle.ground.proofs.InOrder.{tested-cases, first-named}
+use Rattle.ground.proofs.InOrder.{tested-cases, tested-exactly, tested-failed, tested-map, first-named}
 use Rattle.kinds.specs.Kinds.{kindOf, sizeOf}
 use Rattle.programs.specs.Memory.{programPlace, partOf}
 use Rattle.screen.specs.Parts.{Slice, Part, placeIn, lentPart, Shown, showing}
@@ -41,6 +42,15 @@ module _ (kindNumber program own player : ℕ) (programs buffer : Slice) where
       → P handed
   unfolding screenOf
   screen-cases P passed failed = tested-cases P tests _ _ passed (λ number f. failed number (never-0 number f))
+
+  -- A number that is not 0 is told exactly where its test is the first that fails.
+  pub screen-order : (number : ℕ) → (number ≡ 0 → ⊥) → (handed .number ≡ number) ↔ FirstToFail tests number
+  unfolding screenOf
+  screen-order number some =
+      let told = tested-map (λ (s : Shown). s .number) tests (λ n. showing n (lentPart programs 0 0)) (showing 0 (askedPart (kindOf kindNumber) program own programs buffer)) in (
+        (λ e. tested-exactly tests (λ (n : ℕ). n) 0 number (λ z. some (sym z)) (λ m n same. same) (sym told ∙ e)),
+        (λ f. told ∙ tested-failed (λ (n : ℕ). n) 0 f),
+      )
 
   -- with the number 0 no test fails
   pub none-fails : handed .number ≡ 0 → AllHold tests
