@@ -1,12 +1,12 @@
 -- What a player's message does, as it goes by the programs and the player's edit buffer alone: it leaves all, or writes that buffer, or writes programs.
 use Prim.Native.Nat.{ℕ, _-_, _≤_}
 use mathlib.Core.Bool.{Bool, true, false, cond}
-use mathlib.Core.List.{List, [], _∷_}
-use mathlib.Core.Logic.{_⊎_, inl, inr, ⊎-elim}
+use mathlib.Core.List.{List, []}
+use mathlib.Core.Logic.{_⊎_, ⊎-elim}
 use mathlib.Core.Path.{_≡_, refl, sym, ap, subst, _∙_}
 use native.Mathlib.Omega.{arith}
 use lib.ListN.{length, drop, replicate, length-take, length-drop, length-replicate}
-use Rattle.ground.specs.Tests.{Test, AllHold, FirstToFail}
+use Rattle.ground.specs.Tests.{AllHold}
 use Rattle.ground.specs.Calls.{outcome}
 use Rattle.ground.proofs.Tests.{by}
 use Rattle.ground.proofs.InOrder.{all-or-first, tested-passed, tested-failed}
@@ -14,9 +14,9 @@ use Rattle.halves.specs.HalfBytes.{join}
 use Rattle.kinds.specs.declared.Kind.{Kind}
 use Rattle.kinds.specs.Kinds.{sizeOf, hasSpare}
 use Rattle.programs.specs.declared.Player.{Player}
-use Rattle.programs.specs.Memory.{programCount, lastProgram, editSlot, markCount, partOf, putPart}
+use Rattle.programs.specs.Memory.{programCount, lastProgram, editSlot, partOf, putPart}
 use Rattle.programs.specs.Spares.{allSet, withoutSpares}
-use Rattle.programs.specs.Held.{Held, heldOf, Target, One, Edit, All, slotFor, slotsFor, bytesIn, putIn, received, marked, storeIn}
+use Rattle.programs.specs.Held.{Held, heldOf, Target, One, Edit, All, slotFor, slotsFor, bytesIn, putIn, received, storeIn}
 use Rattle.programs.proofs.Parts.{put-same, edit-length}
 use Rattle.programs.proofs.Players.{slot-inside}
 use Rattle.programs.proofs.Slots.{received-length}
@@ -33,7 +33,7 @@ use Rattle.sysex.specs.Judging.{judgeOf}
 use Rattle.sysex.specs.Formats.{There, IsDump, Meant, identity, asked, dumped, unsaid}
 use Rattle.carrying.specs.Carrying.{Outcome, refusing, orderDoes}
 use Rattle.carrying.proofs.Understands.{meant}
-use Rattle.podbox.specs.Messages.{isController, isProgramChange, channelTests, changeAnswer, controllerDoes, programChangeDoes, channelDoes, messageDoes}
+use Rattle.podbox.specs.Messages.{isController, channelTests, changeAnswer, controllerDoes, programChangeDoes, channelDoes, messageDoes}
 use Rattle.podbox.specs.Whole.{bodyOf, messageOrder, handedDoes}
 use Rattle.podbox.proofs.Taking.{change-numbered}
 use Rattle.demands.specs.Duo.{namedIn, editIn, programsIn, storesPrograms, messageStores}

@@ -1,8 +1,8 @@
 -- Req 08 for this box: the players do not notice one another.
-use Prim.Native.Nat.{ℕ, _≤_}
+use Prim.Native.Nat.{ℕ}
 use mathlib.Core.Bool.{Bool, true, false, true≢false}
-use mathlib.Core.List.{List, [], _∷_, map}
-use mathlib.Core.Logic.{_⊎_, inl, inr, ⊎-elim}
+use mathlib.Core.List.{List, [], _∷_}
+use mathlib.Core.Logic.{inl, inr}
 use mathlib.Core.Path.{_≡_, refl, sym, ap, subst, _∙_}
 use native.Mathlib.Omega.{arith}
 use lib.Dec.{leb}
@@ -16,12 +16,11 @@ use Rattle.programs.specs.Held.{Held, heldOf, Edit}
 use Rattle.framing.specs.declared.Receiver.{Receiver}
 use Rattle.framing.specs.Bytes.{stepOf}
 use Rattle.sockets.specs.Framer.{Happening, Nothing, Cut, Finished, Framer, Idle}
-use Rattle.sockets.specs.Calls.{Socket, S0, S1, Call, Byte, Direct, Finish, FromSocket, FromDirect, ifSame, handing}
+use Rattle.sockets.specs.Calls.{Socket, S0, S1, Byte, Direct, Finish, FromSocket, FromDirect, ifSame, handing}
 use Rattle.sockets.specs.Box.{LeftOf, CallsOf, SaidsOf, saidOf, heldAfter, finishedBy, happeningDoes}
 use Rattle.sockets.specs.Promise.{happeningOf, socketNumber, socketOf, stepDoes}
 use Rattle.sockets.specs.History.{WorldOf, lends, History, nothing, byte, direct, saidsAlong}
-use Rattle.sockets.specs.Demand.{Fresh}
-use Rattle.sockets.specs.Players.{Seen, Sent, Called, Stored, SeensOf, seenAfter, ownSaids, Isolated}
+use Rattle.sockets.specs.Players.{Sent, Called, Stored, SeensOf, seenAfter, ownSaids, Isolated}
 use Rattle.sockets.proofs.Contract.{byte-passed, direct-passed}
 use Rattle.sockets.proofs.TwoPlayers.{TwoPlayers, AllOf, isOf}
 use Rattle.sockets.proofs.Unnoticed.{unnoticed}

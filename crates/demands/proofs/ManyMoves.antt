@@ -21,7 +21,7 @@ use Rattle.controls.specs.Applying.{Changed, applyOf}
 use Rattle.controls.proofs.Controllers.{apply-cases, length-kept}
 use Rattle.framing.specs.declared.Receiver.{Receiver}
 use Rattle.framing.specs.Receiver.{fresh, takesOne}
-use Rattle.sockets.specs.Framer.{Framer, Idle, AwaitTwo, Nothing, hear, hears, Channel}
+use Rattle.sockets.specs.Framer.{Framer, Idle, AwaitTwo, Nothing, hear, hears}
 use Rattle.sockets.specs.Calls.{Socket, FromSocket, feed, handing}
 use Rattle.sockets.specs.Box.{Said, said, Rules, CallsOf, FinishesOf, SaidsOf, finishedBy, heldAfter, saidsOf, saidOf}
 use Rattle.sockets.specs.Promise.{socketOf}
@@ -35,7 +35,7 @@ use Rattle.sysex.specs.Numbers.{refused, answerNumber}
 use Rattle.carrying.specs.Carrying.{Outcome}
 use Rattle.podbox.specs.declared.Move.{Move}
 use Rattle.podbox.specs.Settings.{isValid}
-use Rattle.podbox.specs.Messages.{changeAnswer, controllerDoes, channelDoes, messageDoes}
+use Rattle.podbox.specs.Messages.{changeAnswer, controllerDoes, messageDoes}
 use Rattle.podbox.specs.Moves.{moveMessage}
 use Rattle.podbox.specs.Box.{limit, socketPlayer, Moves, handsOf, movesTests, noted, boxRules, movesOf}
 use Rattle.podbox.proofs.Taking.{sender}

@@ -1,18 +1,16 @@
 -- Laws of what is named with its marks, when that or something else is written: a player's edit buffer, a program, all of them.
 use Prim.Native.Nat.{ℕ, _+_, _≤_}
-use mathlib.Core.Bool.{Bool, true, cond}
 use mathlib.Core.List.{List}
 use mathlib.Core.Logic.{_⊎_, inl, inr}
-use mathlib.Core.Path.{_≡_, refl, sym, ap, _∙_}
+use mathlib.Core.Path.{_≡_, ap, _∙_}
 use native.Mathlib.Omega.{arith}
 use lib.ListN.{length, length-take, length-drop}
-use Rattle.ground.proofs.Tests.{by}
 use Rattle.kinds.specs.declared.Kind.{Kind}
-use Rattle.kinds.specs.Kinds.{sizeOf, hasSpare}
+use Rattle.kinds.specs.Kinds.{sizeOf}
 use Rattle.programs.specs.declared.Player.{Player}
 use Rattle.programs.specs.declared.Player.the-variants as players
 use Rattle.programs.specs.Memory.{programCount, lastProgram, editSlot, editPlace, allSize, memorySize, markCount, partOf, putPart}
-use Rattle.programs.specs.Held.{Held, heldOf, Target, One, Edit, All, placeFor, countFor, slotFor, slotsFor, received, storeIn, putIn}
+use Rattle.programs.specs.Held.{Held, heldOf, Target, One, Edit, All, placeFor, countFor, slotFor, slotsFor}
 use Rattle.programs.proofs.Players.{slot-inside, edit-inside, edit-apart}
 use Rattle.programs.proofs.Parts.{part-put, part-before, part-behind, part-over, part-in-part, put-length, other-part}
 use Rattle.carrying.proofs.Parts.{program-inside}
