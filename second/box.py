@@ -1,10 +1,11 @@
-"""The box of document 01 with Reqs 01, 04, 06 and 07, from their text."""
+"""The box of document 01 with Reqs 01, 04 and 06 to 08, from their text."""
 
 from typing import NamedTuple, Optional
 
 from controllers import TOO_SHORT, apply, back, read, scale, split
-from kinds import (BY_NUMBER, DUMP, EDIT, END, MAKER, MARK_COUNT, PROGRAM,
-                   PROGRAMS, REQUEST, START)
+from kinds import (BY_NUMBER, DUMP, EDIT, END, MAKER, MARK_COUNT, ONE,
+                   PLAYERS, PROGRAM, PROGRAMS, REQUEST, START, TWO,
+                   edit_place)
 
 TOP_BYTE = 0x7F   # "Bytes below 0x80 are added"
 TOP_CHANNEL = 15  # "channel 0 to 15"
@@ -26,7 +27,7 @@ WRONG_VERSION = 15    # "version not 0"
 OTHER_CHANNEL = 20    # "channel message on another channel, not omni"
 NO_CONTROLLER = 21    # "channel message other than a controller"
 OTHER_IDENTITY = 22   # "identity request for another channel, not omni"
-NO_SOCKET = 31        # "socket not 0 or 1"
+NO_PLAYER = 31        # "socket not 0 or 1", or Req 08's "named player"
 NOT_SOUND = 32        # "receiver not sound, or a setting out of its range"
 NO_KIND = 32          # Req 07: "32 is for none of the three kinds"
 
@@ -204,20 +205,22 @@ def is_identity(message):
             and message[2] <= TOP_BYTE)
 
 
-def places_of(typed, named):
-    """Return the places of what a request or a dump is about."""
-    # "programs in number order, then the edit buffer", and marks as well
+def places_of(typed, named, player):
+    """Return the places of what a player's request or dump is about."""
     if typed == PROGRAM:
         return range(named[0], named[0] + 1)
     if typed == EDIT:
-        return range(PROGRAMS, PROGRAMS + 1)
+        return range(edit_place(player), edit_place(player) + 1)
     # "All programs go in number order; that dump does not touch the edit
     # buffer."
     return range(PROGRAMS)
 
 
 class Box:
-    """Kind, settings, memory, marks, sockets and reply buffer, as lent."""
+    """Kind, settings, memory, marks, sockets and reply buffer, as lent.
+
+    A message's player is its sender, whose edit buffer it is about.
+    """
 
     def __init__(self, kind, memory_length=None, buffer_length=None,
                  mark_count=MARK_COUNT):
@@ -239,10 +242,9 @@ class Box:
         """Return the kind whose number is brought, None for no kind."""
         return BY_NUMBER.get(self.kind_number)
 
-    @property
-    def edit(self):
-        """Return the edit buffer of the kind that is brought."""
-        return memoryview(self.memory)[self.kind.part(PROGRAMS)]
+    def edit(self, player):
+        """Return a player's edit buffer, of the kind that is brought."""
+        return memoryview(self.memory)[self.kind.part(edit_place(player))]
 
     def is_short(self, *buffers):
         """Say whether one of these buffers is lent too short."""
@@ -253,63 +255,64 @@ class Box:
         """Say whether each mark of the box's own is 1 or 0."""
         return {*self.marks[:MARK_COUNT]} <= {RECEIVED, NOT_RECEIVED}
 
-    def whole(self, message: bytes) -> tuple:
+    def whole(self, message: bytes, player: int = ONE) -> tuple:
         """Judge a message handed over at once: (number, reply length)."""
         # "30 for the memory or the reply buffer, 32 for a setting, then 10
         # if over 5,193 bytes, then 11 ...; then as above"
-        refusal = self.turn_away_call(MEMORY, MARKS, REPLY)
+        refusal = self.turn_away_set(player, MEMORY, MARKS, REPLY)
         if refusal is not None:
             return refusal, 0
         if len(message) > self.kind.longest:
             return TOO_LONG, 0
         if not is_framed(message):
             return NOT_OURS, 0
-        return self.judge_sysex(message)
+        return self.judge_sysex(player, message)
 
     def take(self, socket: int, byte: int) -> tuple:
         """Take one byte on one socket: (number, reply length)."""
         # a number that is no socket's is lent the second one's
-        own = 0 if socket == 0 else 1
-        refusal = self.turn_away(socket, own)
+        own = ONE if socket == ONE else TWO
+        # "A call tests 30, 31, 32 in that order, then takes the byte."
+        refusal = self.turn_away_set(
+            socket, MEMORY, MARKS, RECEIVE[own], REPLY)
         if refusal is not None:
             return refusal, 0
-        number, sysex, channel = self.receivers[own].take(
+        receiver = self.receivers[own]
+        if not receiver.is_sound(self.kind):
+            return NOT_SOUND, 0
+        number, sysex, channel = receiver.take(
             self.kind, byte, self.receive[own])
         if sysex is not None:
-            return self.judge_sysex(sysex)
+            return self.judge_sysex(own, sysex)
         # "The reply length is 0 unless the number is 2."
         if channel is not None:
-            return self.judge_channel(*channel), 0
+            return self.judge_channel(own, *channel), 0
         return number, 0
 
-    def turn_away(self, socket, own):
-        """Return why a byte is not taken, None where it is."""
-        if self.kind is None:
-            return NO_KIND
-        # "A call tests 30, 31, 32 in that order, then takes the byte."; Req
-        # 06: "too few marks lent is 30, a mark neither 1 nor 0 is 32"
-        if self.is_short(MEMORY, MARKS, RECEIVE[own], REPLY):
-            return TOO_SHORT
-        if socket not in (0, 1):
-            return NO_SOCKET
-        if not (self.receivers[own].is_sound(self.kind)
-                and self.settings.in_range() and self.are_marks_sound()):
-            return NOT_SOUND
-        return None
+    def turn_away(self, player, *buffers):
+        """Return why a call is refused, None if it isn't.
 
-    def turn_away_call(self, *buffers):
-        """Return why a call that has no socket is refused, None if it isn't.
-
-        These buffers are lent to it.
+        It is a player's, and is lent these buffers.
         """
         # Req 04: "gives 32, just before 30"
         if self.kind is None:
             return NO_KIND
         if self.is_short(*buffers):
             return TOO_SHORT
+        # Req 08: "31 after 30 wherever a named player is not 0 or 1"
+        if player not in PLAYERS:
+            return NO_PLAYER
+        return None
+
+    def turn_away_set(self, player, *buffers):
+        """Return why a call that has settings is refused, None if it isn't."""
+        refusal = self.turn_away(player, *buffers)
+        if refusal is not None:
+            return refusal
         if not self.settings.in_range():
             return NOT_SOUND
-        # a call that is not lent the marks does not look at them
+        # Req 06: "a mark neither 1 nor 0 is 32"; a call that is not lent the
+        # marks does not look at them
         if MARKS in buffers and not self.are_marks_sound():
             return NOT_SOUND
         return None
@@ -320,13 +323,35 @@ class Box:
             return 'refused', NO_KIND
         return scale(self.kind, controller, value)
 
-    def back(self, controller: int) -> tuple:
+    def back(self, controller: int, player: int = ONE) -> tuple:
         """Return the value that a controller shows, or why it shows none."""
+        refusal = self.turn_away(player, MEMORY)
+        if refusal is not None:
+            return 'refused', refusal
+        return back(self.kind, controller, self.edit(player))
+
+    def screen(self, program: int, own: int, player: int, programs: bytes,
+               buffer: bytes) -> tuple:
+        """Return the number, and the part that a player's screen is handed.
+
+        Req 08: "The screen lends the programs and its player's buffer as two
+        slices"; own asks for the buffer, unless it is 0.
+        """
+        # "a refusal hands it an empty part of the programs"
+        nothing = programs[:0]
         if self.kind is None:
-            return 'refused', NO_KIND
-        # where memory is too short, so is what is lent of the edit buffer
-        lent = max(self.lent[MEMORY] - self.kind.edit_start, 0)
-        return back(self.kind, controller, self.edit[:lent])
+            return NO_KIND, nothing
+        if (len(programs) < self.kind.programs_length
+                or len(buffer) < self.kind.size):
+            return TOO_SHORT, nothing
+        if player not in PLAYERS:
+            return NO_PLAYER, nothing
+        if own != 0:
+            return TAKEN, buffer[:self.kind.size]
+        # "for the screen then 14 for a program above 0x23"
+        if program >= PROGRAMS:
+            return NO_PROGRAM, nothing
+        return TAKEN, programs[self.kind.part(program)]
 
     def amp(self, model: int) -> tuple:
         """Return 1 for an amp model that is known, 0 for one that isn't."""
@@ -335,25 +360,25 @@ class Box:
         # Req 07: "the box says whether an amp model is known"
         return 'value', int(self.kind.knows(model))
 
-    def judge_channel(self, status, first, second=0):
-        """Return the number of a finished channel message."""
+    def judge_channel(self, player, status, first, second=0):
+        """Return the number of a player's finished channel message."""
         # "a finished channel message 20, 21, 17, 18, 19"; Req 04: "a program
         # change .. that passes check 20"
         if not self.settings.hear(status & 0x0F):
             return OTHER_CHANNEL
         if status >> 4 == PROGRAM_CHANGE and first in self.kind.changes:
-            return self.recall(self.kind.changes.index(first))
+            return self.recall(player, self.kind.changes.index(first))
         if status >> 4 != CONTROLLER:
             return NO_CONTROLLER
-        return apply(self.kind, first, second, self.edit)
+        return apply(self.kind, first, second, self.edit(player))
 
-    def recall(self, program):
-        """Copy a program into the edit buffer: "and returns 1"."""
-        self.edit[:] = self.memory[self.kind.part(program)]
+    def recall(self, player, program):
+        """Copy a program into a player's edit buffer: "and returns 1"."""
+        self.edit(player)[:] = self.memory[self.kind.part(program)]
         return STORED
 
-    def judge_sysex(self, message):
-        """Judge a finished SysEx that is not too long."""
+    def judge_sysex(self, player, message):
+        """Judge a player's finished SysEx that is not too long."""
         # "A finished SysEx is tested 10, 11, 12, 13, 14, 15, 16"
         if is_identity(message):
             return self.identify(message[2])
@@ -368,16 +393,16 @@ class Box:
         # Req 06: "13 is for a length that is neither"
         if len(message) not in self.kind.lengths[form]:
             return WRONG_LENGTH, 0
-        return self.judge_fields(*form, fields[2:])
+        return self.judge_fields(player, *form, fields[2:])
 
-    def judge_fields(self, opcode, typed, fields):
+    def judge_fields(self, player, opcode, typed, fields):
         """Judge a message of known form and right length."""
         # "00 00 pp", "01 00 pp vv data": only these name a program
         count = 1 if typed == PROGRAM else 0
         named, rest = fields[:count], fields[count:]
         if any(program >= PROGRAMS for program in named):
             return NO_PROGRAM, 0
-        places = places_of(typed, named)
+        places = places_of(typed, named, player)
         if opcode == REQUEST:
             return self.answer(typed, named, places)
         return self.load(rest, places), 0
@@ -398,7 +423,7 @@ class Box:
         return STORED
 
     def store(self, place, data):
-        """Store a program, or the edit buffer, of one length or the other."""
+        """Store a program, or an edit buffer, of one length or the other."""
         # Req 06: "A short dump sets the spare byte to 0 and clears the mark."
         spare = bytes(self.kind.size - len(data))
         self.memory[self.kind.part(place)] = data + spare

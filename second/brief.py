@@ -6,9 +6,10 @@ from random import Random
 
 from box import REPLY
 from chance import add_random
+from duo import add_backs, add_duo, add_no_players
 from judging import add_identities, add_orders, add_others, add_unknown
-from kinds import (AMP_BORDERS, BASS, EDIT, EVERY_CONTROLLER, POD, PRO,
-                   PROGRAM, PROGRAMS)
+from kinds import (AMP_BORDERS, BASS, EDIT, EVERY_CONTROLLER, MARK_COUNT, ONE,
+                   PLAYERS, POD, PRO, PROGRAM, PROGRAMS, TWO, edit_place)
 from lent import (NO_CONTROLLERS, VALUES, add_back, add_back_order, add_beyond,
                   add_lengths, add_long_buffers, add_odd, add_receivers,
                   add_scale_order, add_scaling, add_stale, add_turned_away,
@@ -22,18 +23,19 @@ from scenes import (EVERY_NUMBER, add_again, add_among, add_counts,
                     add_high, add_list_order, add_list_pieces, add_moves,
                     add_no_sockets_lent, add_our_channel, add_selected,
                     listed)
+from screens import add_screens, add_shown
 from script import Script
 from sockets import (add_apart, add_changes, add_channels, add_controllers,
                      add_cuts, add_mixed, add_numbers, add_panel, add_pieces,
                      add_raised, add_real_time, add_recalled, add_running,
                      add_shared, feed_moves)
-from switched import (NO_KINDS, add_no_kinds, add_other_buffers,
+from switched import (NO_KINDS, NO_PLAYERS, add_no_kinds, add_other_buffers,
                       add_switched)
 
 
 def add_opening(script):
     """Every number that the kind can give; both sockets fresh at the end."""
-    for socket in (0, 1):
+    for socket in PLAYERS:
         # what stands in the receive buffer is judged: no F0 in front, 11
         script.receiver(socket, stored=1, inside=1)
         script.send_hex(socket, '7E 7F 06 01 F7')
@@ -70,6 +72,10 @@ def add_opening(script):
     script.back(controller, 13)                                 # 40
     script.scale(127)
     script.amp(*AMP_BORDERS, 255, 256, 1 << 24)                 # known or not
+    script.screen(0x23, 0, 1)                                   # a part
+    script.name(2)
+    script.back(13)                                             # 31
+    script.name_back()
 
 
 def add_lent(script, shown):
@@ -82,7 +88,10 @@ def add_lent(script, shown):
                 (0, 64, 127, 128, 1 << 24))
     for controller in shown:
         add_back(script, controller)
+    script.turn_to(TWO)
     add_back_order(script)
+    add_backs(script, shown)
+    script.turn_to(ONE)
 
 
 def add_bytes(script):
@@ -117,12 +126,13 @@ def add_lists(script, receivers):
 def add_marks(script):
     """Dumps of each length, and marks, some clear at the end."""
     kind = script.kind
-    add_wrong_marks(script, (0, PROGRAMS, PROGRAMS + 1), (2,))
+    add_wrong_marks(script, (0, *map(edit_place, PLAYERS), MARK_COUNT), (2,))
     add_in_turn(kind, script.whole, (request(kind, PROGRAM, 0x11),
                                      request(kind, EDIT)))
     add_marked(script, script.whole)
     add_between(kind, script.whole)
-    add_unmoved(script, 0)
+    for player in PLAYERS:
+        add_unmoved(script, player)
 
 
 def add_pod(script):
@@ -145,8 +155,11 @@ def add_pod(script):
     add_orders(kind, partial(script.feed, 1))
     add_identities(script, partial(script.feed, 0), ((9, 0), (15, 1)))
     add_marks(script)
-    add_one_clear(script, script.whole, (PROGRAMS - 1, PROGRAMS))
+    add_one_clear(script, script.whole, range(PROGRAMS - 1, MARK_COUNT))
     add_spares(script, partial(script.feed, 1))
+    add_duo(script)
+    add_no_players(script, NO_PLAYERS[::2])
+    add_screens(script, range(PROGRAMS))
 
 
 def add_bass(script):
@@ -167,6 +180,9 @@ def add_bass(script):
     add_others(kind, script.whole)
     for channel in (0, 0x7F):
         script.feed(1, identity(channel))
+    add_duo(script)
+    add_no_players(script, NO_PLAYERS[1::4])
+    add_screens(script, (0, 1, 0x22, 0x23))
 
 
 def add_pro(script):
@@ -181,6 +197,7 @@ def add_pro(script):
     script.moves(moves)
     feed_moves(script, 1, moves)
     script.whole(request(script.kind, EDIT))
+    add_shown(script, (0, 0x23))
 
 
 def make_brief():

@@ -1,7 +1,8 @@
 """Check controllers.py, box.py and moves.py against document 01's cases.
 
-Cases of Reqs 01 and 04 to 07, of document 02, stand beside them. The numbers
-here are the documents', and none of them is computed from a kind.
+Cases of Reqs 01 and 04 to 08, of document 02, stand beside them; where no
+player is named, it is player one. The numbers here are the documents', and
+none of them is computed from a kind.
 """
 
 from itertools import permutations, product
@@ -11,7 +12,7 @@ from controllers import apply, back, join, read, scale, split, store
 from kinds import BASS, KINDS, POD, PRO
 from lent import sound, unsound
 from moves import carry_out, in_pairs
-from switched import NO_KINDS
+from switched import NO_KINDS, NO_PLAYERS
 
 LONG = (26, 27, 28)  # "30 and 62, bytes 26 to 28"
 # "identity 02 00 00 00", "identity 00 00 00 04"; the revision of a fresh box
@@ -36,6 +37,11 @@ def buffer_with(changes, length=72):
     for place, byte in changes.items():
         buffer[place] = byte
     return buffer
+
+
+def memory_with(one, two, programs=None):
+    """Return memory: programs, zero where none are given, then buffers."""
+    return (programs or bytes(36 * len(one))) + one + two
 
 
 def check_halves():
@@ -209,15 +215,17 @@ def check_calls():
             box = Box(POD)
             place = len(bytes.fromhex(data)) - 1
             expect(data, send(box, data, socket)[-1], (place, number, 0))
-            expect(data, box.memory,
-                   bytes(36 * 72) + buffer_with(changes))
+            # Req 08: "the sender's own buffer"
+            edits = [bytes(72), bytes(72)]
+            edits[socket] = buffer_with(changes)
+            expect(data, box.memory, memory_with(*edits))
 
 
 def check_forms():
     """Programs and lengths, on a socket and as whole messages."""
     halves = '0A 07' * 72
-    kept = bytes(37 * 72)
-    stored = bytes(35 * 72) + b'\xA7' * 72 + bytes(72)
+    kept = bytes(38 * 72)
+    stored = bytes(35 * 72) + b'\xA7' * 72 + bytes(144)
     cases = (
         # "Program 0x23 taken, 0x24 is 14."
         ('F0 00 01 0C 01 00 00 23 F7', 2, 154, kept),
@@ -280,13 +288,16 @@ def check_kinds():
     # "2,664 bytes in all", "5,193 with F7 is the longest message"; "A Bass
     # box's longest message and its buffers are 5,769 bytes, its memory 2,960.
     # Whole lengths are 170, 169 and 5,769; requests keep theirs."; Req 06:
-    # "whole lengths 152, 151 and 5,121 too", "The Bass kind has one length"
+    # "whole lengths 152, 151 and 5,121 too", "The Bass kind has one length";
+    # Req 08: "Memory grows by one edit buffer"
     for kind, memory, longest, lengths in (
-            *((kind, 2664, 5193, [(9,), (8,), (8,), (154, 152), (153, 151),
-                                  (5193, 5121)]) for kind in PODS),
-            (BASS, 2960, 5769, [(9,), (8,), (8,), (170,), (169,), (5769,)])):
+            *((kind, 2664 + 72, 5193, [(9,), (8,), (8,), (154, 152),
+                                       (153, 151), (5193, 5121)])
+              for kind in PODS),
+            (BASS, 2960 + 80, 5769, [(9,), (8,), (8,), (170,), (169,),
+                                     (5769,)])):
         expect(f'{kind.word}, lent', kind.least,
-               (memory, longest, longest, longest, 37))
+               (memory, longest, longest, longest, 38))
         expect(f'{kind.word}, lengths', [*kind.lengths.values()], lengths)
     # "80 data bytes a program (160 half bytes), all programs 5,760"
     expect('bass, half bytes', (BASS.halves, BASS.all_halves), (160, 5760))
@@ -311,15 +322,15 @@ def check_bass_forms():
     """Each length right and one off, and either unit's header."""
     ours, theirs = 'F0 00 01 0C 02', 'F0 00 01 0C 01'
     one, every = '0A 07' * 80, '0A 07' * 2880
-    kept, edit = bytes(2960), bytes(2880) + b'\xA7' * 80
-    last = bytes(35 * 80) + b'\xA7' * 80 + bytes(80)
+    kept, edit = bytes(3040), memory_with(b'\xA7' * 80, bytes(80))
+    last = bytes(35 * 80) + b'\xA7' * 80 + bytes(160)
     cases = (
         (f'{ours} 00 00 23 F7', 2, 170, kept),
         (f'{ours} 00 01 F7', 2, 169, kept),
         (f'{ours} 00 02 F7', 2, 5769, kept),
         (f'{ours} 01 00 23 00 {one} F7', 1, 0, last),
         (f'{ours} 01 01 00 {one} F7', 1, 0, edit),
-        (f'{ours} 01 02 00 {every} F7', 1, 0, b'\xA7' * 2880 + bytes(80)),
+        (f'{ours} 01 02 00 {every} F7', 1, 0, b'\xA7' * 2880 + bytes(160)),
         *((f'{ours} {form} F7', 13, 0, kept) for form in (
             '00 00', '00 00 23 00', '00 01 00', '00 02 00',
             f'01 00 23 00 {one[2:]}', f'01 00 23 00 {one} 00',
@@ -341,8 +352,8 @@ def check_bass_forms():
         check_form(BASS, data, (number, length), memory)
     # and the Bass POD's header for a POD
     for kind in PODS:
-        check_form(kind, f'{ours} 00 01 F7', (11, 0), bytes(2664))
-        check_form(kind, f'{ours} 01 01 00 {one} F7', (11, 0), bytes(2664))
+        check_form(kind, f'{ours} 00 01 F7', (11, 0), bytes(2736))
+        check_form(kind, f'{ours} 01 01 00 {one} F7', (11, 0), bytes(2736))
 
 
 def check_bass_moves():
@@ -386,8 +397,8 @@ def check_move(kind, controller, value, place, stored):
         expect(case, box.scale(controller, value), ('value', stored))
         expect(case, send(box, data), [(2, 3, 0)])
     size = SIZES[kind]
-    expect(case, box.memory,
-           bytes(36 * size) + buffer_with({place: stored or 0}, size))
+    expect(case, box.memory, memory_with(
+        buffer_with({place: stored or 0}, size), bytes(size)))
 
 
 def check_bass_back():
@@ -406,7 +417,7 @@ def check_bass_back():
 
 def check_changes():
     """Program changes: copied on a Bass box, 21 on a POD."""
-    memory = b''.join(bytes((program + 1,)) * 80 for program in range(37))
+    memory = b''.join(bytes((place + 1,)) * 80 for place in range(38))
     for number, program in ((0, None), (1, 0), (2, 1), (36, 35), (37, None),
                             (127, None)):
         for channel, omni in ((0, 0), (0, 1), (3, 1), (3, 0)):
@@ -419,12 +430,13 @@ def check_changes():
             # the second one under running status
             expect(case, send(box, f'C{channel} {number:02X} {number:02X}'),
                    [(1, answer, 0), (2, answer, 0)])
-            edit = memory[80 * program:][:80] if copied else memory[2880:]
-            expect(case, box.memory, memory[:2880] + edit)
+            edit = memory[80 * program if copied else 2880:][:80]
+            expect(case, box.memory, memory_with(edit, memory[2960:],
+                                                 memory[:2880]))
         for kind in PODS:
             box, case = Box(kind), f'program change {number}, {kind.word}'
             expect(case, send(box, f'C0 {number:02X}'), [(1, 21, 0)])
-            expect(case, box.memory, bytes(2664))
+            expect(case, box.memory, bytes(2736))
 
 
 def check_order():
@@ -436,8 +448,9 @@ def check_order():
         expect(case, box.take(2, 0xF8), (32, 0))
         expect(case, box.whole(b''), (32, 0))
         expect(case, box.scale(128, 128), ('refused', 32))
-        expect(case, box.back(128), ('refused', 32))
+        expect(case, box.back(128, 2), ('refused', 32))
         expect(case, box.amp(0), ('refused', 32))
+        expect(case, box.screen(36, 0, 2, b'', b''), (32, b''))
     # a POD's buffers lent to a Bass call
     box = Box(POD)
     box.kind_number = 1
@@ -456,14 +469,14 @@ def check_list(kind, data, noted, edit, before=b''):
     """A list on a box with some first bytes of the edit buffer given."""
     box = Box(kind)
     box.settings.channel = 5  # "on our channel"
-    box.edit[:len(before)] = before
+    box.edit(0)[:len(before)] = before
     moves, numbers = in_pairs(bytes.fromhex(data)), bytearray(b'\xEE' * 300)
     expect(f'{kind.word}, list {data}', carry_out(box, moves, numbers), 0)
     # "the number noted for each move"; those behind keep their bytes
     expect(f'{kind.word}, numbers of {data}', numbers,
            bytes(noted) + b'\xEE' * (300 - len(noted)))
     expect(f'{kind.word}, memory after {data}', box.memory,
-           bytes(36 * len(edit)) + edit)
+           memory_with(edit, bytes(len(edit))))
 
 
 def check_pod_lists():
@@ -520,7 +533,7 @@ def check_one_by_one():
         box.settings.channel = other.settings.channel = channel
         box.settings.omni = other.settings.omni = omni
         numbers = bytearray(len(moves))
-        carry_out(box, moves, numbers)
+        carry_out(box, moves, numbers, socket)
         singly = [send(other, bytes((0xB0 + channel, *move)).hex(), socket)
                   for move in moves]
         case = f'{kind.word}, channel {channel}, omni {omni}'
@@ -545,13 +558,19 @@ def check_counts():
             taken = number == 0
             expect(case, numbers, bytes((3,)) * (count if taken else 0)
                    + bytes(room - count if taken else room))
-            expect(case, max(box.edit), 63 if taken and count else 0)
+            expect(case, max(box.edit(0)), 63 if taken and count else 0)
+
+
+def first_of(numbers, reasons, otherwise=0):
+    """Return the first number whose reason holds."""
+    return next((number for number, holds in zip(numbers, reasons) if holds),
+                otherwise)
 
 
 def check_list_order():
-    """Each choice of reasons at once: 33, 34, 32, 30, 32."""
-    for kind, *reasons in product(KINDS, *((False, True),) * 5):
-        many, no_room, no_kind, short, wrong_setting = reasons
+    """Each choice of reasons at once: 33, 34, 32, 30, 31, 32."""
+    for kind, *reasons in product(KINDS, *((False, True),) * 6):
+        many, no_room, no_kind, short, no_player, wrong_setting = reasons
         box, moves = Box(kind), [(13, 127)] * (257 if many else 256)
         memory = bytes(box.memory)
         numbers = bytearray(len(moves) - no_room)
@@ -559,11 +578,11 @@ def check_list_order():
             box.kind_number = 3  # "none of the three kinds"
         box.lent[0] -= short
         box.settings.omni = 2 if wrong_setting else 0
-        # "Refusals, tested 33, 34, then 30 and 32"
-        wanted = next((number for number, holds in zip(
-            (33, 34, 32, 30, 32), reasons) if holds), 0)
+        # "Refusals, tested 33, 34, then 30 and 32"; Req 08: "31 after 30"
+        wanted = first_of((33, 34, 32, 30, 31, 32), reasons)
         case = f'{kind.word}, reasons {reasons}'
-        expect(case, carry_out(box, moves, numbers), wanted)
+        expect(case, carry_out(box, moves, numbers, 2 if no_player else 1),
+               wanted)
         # "nothing changes on any of these four"
         if wanted:
             expect(case, (box.memory, numbers), (memory, bytes(len(numbers))))
@@ -579,60 +598,63 @@ def check_list_order():
 def check_between():
     """A list between the bytes of messages, which it does not touch."""
     halves = '0A 07' * 72
-    box = Box(POD)
-    for socket, data in ((0, f'F0 00 01 0C 01 01 01 00 {halves}'),
-                         (1, 'B0 13 02 37')):
-        send(box, data, socket)
-    numbers = bytearray(2)
+    box, numbers = Box(POD), bytearray(2)
+    send(box, 'B0 13 02 37')
     # byte 46 changes while 55 waits for its value
     carry_out(box, [(19, 1), (13, 127)], numbers)
-    expect('between', (numbers, send(box, '7F', 1)),
-           (b'\3\3', [(0, 19, 0)]))
-    expect('between', box.edit, buffer_with({9: 63, 46: 1}))
-    # the dump is stored over the moves, and later moves over the dump
+    expect('between', (numbers, send(box, '7F')), (b'\3\3', [(0, 19, 0)]))
+    expect('between', box.edit(0), buffer_with({9: 63, 46: 1}))
+    # a dump is stored over the moves, and later moves over the dump
+    send(box, f'F0 00 01 0C 01 01 01 00 {halves}')
+    carry_out(box, [(13, 2)], numbers)
     expect('between', send(box, 'F7'), [(0, 1, 0)])
-    expect('between', box.edit, b'\xA7' * 72)
+    expect('between', box.edit(0), b'\xA7' * 72)
     carry_out(box, [(13, 0)], numbers)
-    expect('between', box.edit, b'\xA7' * 9 + b'\0' + b'\xA7' * 62)
+    expect('between', box.edit(0), b'\xA7' * 9 + b'\0' + b'\xA7' * 62)
 
 
 # Req 06
 
 HEAD = 'F0 00 01 0C 01'
-SET, CLEAR = b'\1' * 37, bytes(37)
+SET, CLEAR = b'\1' * 38, bytes(38)
 
 
 def marks_with(places, mark, others):
-    """Return 37 marks: these places have one mark, the others another."""
-    return bytes(mark if place in places else others for place in range(37))
+    """Return 38 marks: these places have one mark, the others another."""
+    return bytes(mark if place in places else others for place in range(38))
 
 
-def check_dump(data, places, size):
+def check_dump(data, places, size, players=(0, 1)):
     """A dump of a POD, over full memory and over marks of either sort."""
     message = bytes.fromhex(data)
-    for kind, before, socket in product(PODS, (SET, CLEAR), (None, 0, 1)):
+    for kind, before, player, whole in product(PODS, (SET, CLEAR), players,
+                                               (False, True)):
         box = Box(kind)
-        box.memory[:], box.marks[:] = b'\xEE' * 2664, before
+        box.memory[:], box.marks[:] = b'\xEE' * 2736, before
         case = (f'{kind.word}, {len(message)} bytes, marks of {before[0]}, '
-                f'on {socket}')
-        if socket is None:
-            expect(case, box.whole(message), (1, 0))
+                f'player {player}, whole {whole}')
+        if whole:
+            expect(case, box.whole(message, player), (1, 0))
         else:
-            expect(case, send(box, data, socket), [(len(message) - 1, 1, 0)])
+            expect(case, send(box, data, player), [(len(message) - 1, 1, 0)])
         # "A short dump sets the spare byte to 0 and clears the mark."
         expect(case, box.memory, b''.join(
             b'\xA7' * size + bytes(72 - size) if place in places
-            else b'\xEE' * 72 for place in range(37)))
+            else b'\xEE' * 72 for place in range(38)))
         expect(case, box.marks, marks_with(places, size == 72, before[0]))
 
 
 def check_short_dumps():
     """Dumps of each type and length, and lengths that are neither."""
     for form, places in (('01 00 00 00', [0]), ('01 00 23 00', [35]),
-                         ('01 01 00', [36]), ('01 02 00', range(36))):
+                         ('01 02 00', range(36))):
         for size in (71, 72):
             halves = '0A 07' * size * len(places)
             check_dump(f'{HEAD} {form} {halves} F7', places, size)
+    # Req 08: the sender's own buffer and mark, 36 or 37
+    for player, size in product((0, 1), (71, 72)):
+        check_dump(f'{HEAD} 01 01 00 {"0A 07" * size} F7', [36 + player],
+                   size, [player])
     # "13 is for a length that is neither": 150 to 156, 5,120 to 5,192
     for form, lengths in (('01 00 23 00', (150, 151, 153, 155, 156)),
                           ('01 01 00', (150, 152, 154, 155, 156)),
@@ -673,12 +695,12 @@ def check_refused_dumps():
         check_kept(BASS, bytes.fromhex(f'F0 00 01 0C 02 {form} F7'), 13)
 
 
-def check_reply(box, asked, front, programs):
+def check_reply(box, asked, front, programs, player=0):
     """A request, and the whole reply: its programs as they are sent."""
     before = bytes(box.memory), bytes(box.marks)
     reply = bytes.fromhex(front) + split(programs) + b'\xF7'
     case = f'{asked}, {box.marks.hex()}'
-    expect(case, box.whole(bytes.fromhex(f'{HEAD} {asked} F7')),
+    expect(case, box.whole(bytes.fromhex(f'{HEAD} {asked} F7'), player),
            (2, len(reply)))
     expect(case, box.reply[:len(reply)], reply)
     expect(case, (box.memory, box.marks), before)
@@ -686,9 +708,9 @@ def check_reply(box, asked, front, programs):
 
 def check_short_replies():
     """Replies for marks of either sort; the spare bytes stay in memory."""
-    programs = [bytes((place,)) * 72 for place in range(1, 38)]
+    programs = [bytes((place,)) * 72 for place in range(1, 39)]
     for kind, places in product(PODS, (
-            (), (0,), (35,), (36,), (3, 36), range(36), range(37))):
+            (), (0,), (35,), (36,), (37,), (3, 36), range(36), range(38))):
         box = Box(kind)
         # the spare byte is not 0 where a mark is clear: it stays
         box.memory[:], box.marks[:] = b''.join(programs), marks_with(
@@ -699,10 +721,11 @@ def check_short_replies():
             check_reply(box, f'00 00 {place:02X}',
                         f'{HEAD} 01 00 {place:02X} 00',
                         programs[place][:size])
-        check_reply(box, '00 01', f'{HEAD} 01 01 00',
-                    programs[36][:71 if 36 in places else 72])
+        for player, place in ((0, 36), (1, 37)):
+            check_reply(box, '00 01', f'{HEAD} 01 01 00', programs[place][
+                :71 if place in places else 72], player)
         # "an all programs dump is long only if all 36 marks are set"
-        size = 71 if {*places} - {36} else 72
+        size = 71 if {*places} - {36, 37} else 72
         check_reply(box, '00 02', f'{HEAD} 01 02 00',
                     b''.join(one[:size] for one in programs[:36]))
 
@@ -713,19 +736,20 @@ def check_marks_lent():
         box = Box(kind, mark_count=40)
         expect(f'{kind.word}, fresh', box.marks, b'\1' * 40)
         # "too few marks lent is 30", before 31 and 32
-        box.lent[4], box.settings.omni = 36, 2
+        box.lent[4], box.settings.omni = 37, 2
         check_called(box, (30, 30, 32))
         box.settings.omni = 0
         check_called(box, (30, 30, 0))
-        box.lent[4] = 37
+        box.lent[4] = 38
         check_called(box, (31, 10, 0))
-        # "a mark neither 1 nor 0 is 32"; behind the 37 it is not looked at
+        # "a mark neither 1 nor 0 is 32"; behind the 38 it is not looked at
         box.lent[4] = 40
-        for place, mark in ((0, 2), (35, 0xFF), (36, 2), (37, 2), (39, 0xFF)):
+        for place, mark in ((0, 2), (35, 0xFF), (36, 2), (37, 2), (38, 2),
+                            (39, 0xFF)):
             box.marks[place] = mark
             expect(f'{kind.word}, mark {place}', box.take(1, 0xF8),
-                   (32 if place < 37 else 0, 0))
-            check_called(box, (31, 32 if place < 37 else 10, 0))
+                   (32 if place < 38 else 0, 0))
+            check_called(box, (31, 32 if place < 38 else 10, 0))
             box.marks[place] = 1
 
 
@@ -747,8 +771,9 @@ def check_marks_left():
         box = Box(kind)
         box.marks[:] = marks
         # "A controller leaves the mark as it was."; a program change too
-        send(box, 'B0 0D 7F C0 01 24 F0 7E 7F 06 01 F7')
-        carry_out(box, [(13, 2)], bytearray(1))
+        for player in (0, 1):
+            send(box, 'B0 0D 7F C0 01 24 F0 7E 7F 06 01 F7', player)
+            carry_out(box, [(13, 2)], bytearray(1), player)
         expect(f'{kind.word}, moves', box.marks, marks)
     for marks in (SET, CLEAR):
         box = Box(BASS)
@@ -845,6 +870,189 @@ def check_as_pod():
                     back(POD, controller, pod)))
 
 
+# Req 08
+
+PAIRS = ((0, 1), (1, 0))  # a player, and the other
+# "31 after 30 wherever a named player is not 0 or 1"
+WRONG = (*NO_PLAYERS, 65536, 65537, 2**32 - 1)
+
+
+def numbered_box(kind):
+    """Return a box whose programs hold 1 to 36, the edit buffers 37 and 38."""
+    box = Box(kind)
+    box.memory[:] = b''.join(bytes((byte,)) * SIZES[kind]
+                             for byte in range(1, 39))
+    return box
+
+
+def check_fresh():
+    """A fresh box: memory and marks, player two's too."""
+    for kind, length in ((POD, 2736), (BASS, 3040), (PRO, 2736)):
+        box = Box(kind)
+        expect(f'{kind.word}, fresh', (box.memory, box.marks),
+               (bytes(length), b'\1' * 38))
+
+
+def check_own():
+    """What reaches the sender's own buffer, and nothing else."""
+    every = dict.fromkeys(range(72), 0xA7)
+    for kind, data, number, changes in (
+            (POD, 'B0 0D 7F', 3, {9: 63}), (BASS, 'B0 0D 7F', 3, {4: 63}),
+            (POD, f'{HEAD} 01 01 00 {"0A 07" * 72} F7', 1, every),
+            (POD, f'{HEAD} 01 01 00 {"0A 07" * 71} F7', 1, {**every, 71: 0}),
+            (BASS, f'F0 00 01 0C 02 01 01 00 {"0A 07" * 80} F7', 1,
+             dict.fromkeys(range(80), 0xA7)),
+            (BASS, 'C0 06', 1, dict.fromkeys(range(80), 6)),
+            (POD, 'C0 06', 21, {})):
+        for player in (0, 1):
+            box = numbered_box(kind)
+            wanted = bytearray(box.memory)
+            for place, byte in changes.items():
+                wanted[(36 + player) * SIZES[kind] + place] = byte
+            case = f'{kind.word}, {data[:23]}, player {player}'
+            expect(case, send(box, data, player)[-1][1], number)
+            expect(case, box.memory, wanted)
+
+
+def check_sent():
+    """An edit request is answered from the sender's own buffer."""
+    for kind, device, size in ((POD, 1, 72), (BASS, 2, 80), (PRO, 1, 72)):
+        asked = f'F0 00 01 0C {device:02X} 00 01 F7'
+        for player, whole in product((0, 1), (False, True)):
+            box, case = numbered_box(kind), f'{asked}, player {player}'
+            own = split(bytes((37 + player,)) * size)
+            answer = (box.whole(bytes.fromhex(asked), player) if whole
+                      else send(box, asked, player)[-1][1:])
+            expect(case, answer, (2, len(own) + 9))
+            expect(case, box.reply[8:8 + len(own)], own)
+
+
+def check_named():
+    """Lists and values shown back, of each player's own buffer."""
+    for kind, place in ((POD, 9), (BASS, 4), (PRO, 9)):
+        for player, other in PAIRS:
+            box, numbers = Box(kind), bytearray(1)
+            case = f'{kind.word}, player {player}'
+            expect(case, carry_out(box, [(13, 127)], numbers, player), 0)
+            expect(case, (numbers, box.edit(player)), (
+                b'\3', buffer_with({place: 63}, SIZES[kind])))
+            expect(case, any(box.edit(other)), False)
+            expect(case, (box.back(13, player), box.back(13, other)),
+                   (('value', 126), ('value', 0)))
+
+
+def check_rotary():
+    """A rotary move under a flanger, beside a player who selected rotary."""
+    for player, other in PAIRS:
+        box = Box(POD)
+        send(box, 'B0 13 05', player)
+        send(box, 'B0 13 02', other)
+        memory = bytes(box.memory)
+        case = f'rotary, player {player}'
+        # "55>48" where byte 46 is 2; 5 selects 58
+        expect(case, send(box, 'B0 37 7F', player), [(2, 19, 0)])
+        expect(case, carry_out(box, [(55, 127)], bytearray(1), player), 0)
+        expect(case, box.back(55, player), ('refused', 19))
+        expect(case, box.memory, memory)
+        expect(case, send(box, 'B0 37 7F', other), [(2, 3, 0)])
+        expect(case, (box.edit(player), box.edit(other)), (
+            buffer_with({46: 5}), buffer_with({46: 2, 48: 1})))
+
+
+def check_shared():
+    """A program that one player stores is the other's too."""
+    for player, other in PAIRS:
+        box = Box(POD)
+        send(box, f'{HEAD} 01 00 23 00 {"0A 07" * 71} F7', player)
+        expect('shared', send(box, f'{HEAD} 00 00 23 F7', other),
+               [(8, 2, 152)])
+        expect('shared', box.reply[9:151], b'\x0A\x07' * 71)
+
+
+def check_no_players():
+    """Wrong players: 31, where no edit buffer is touched too."""
+    for kind, player in product(KINDS, WRONG):
+        box, numbers = numbered_box(kind), bytearray(1)
+        before = bytes(box.memory), bytes(box.marks), bytes(box.reply)
+        header = f'F0 00 01 0C {2 if kind is BASS else 1:02X}'
+        case = f'{kind.word}, player {player}'
+        for data in ('', 'F0 7E 7F 06 01 F7', f'{header} 00 00 00 F7',
+                     f'{header} 00 01 F7', f'{header} 01 00 00 00'
+                     + '00' * 2 * SIZES[kind] + 'F7'):
+            expect(case, box.whole(bytes.fromhex(data), player), (31, 0))
+        expect(case, carry_out(box, [], numbers, player), 31)
+        expect(case, carry_out(box, [(13, 1)], numbers, player), 31)
+        expect(case, box.back(13, player), ('refused', 31))
+        expect(case, (box.memory, box.marks, box.reply, numbers),
+               (*before, b'\0'))
+
+
+def check_whole_order():
+    """Each choice of reasons at once: 32, 30, 31, 32, 10, else 11."""
+    for kind, *reasons in product(KINDS, *((False, True),) * 5):
+        no_kind, short, no_player, wrong_mark, long = reasons
+        box = Box(kind)
+        box.kind_number = 3 if no_kind else kind.number
+        box.lent[0] -= short
+        box.marks[37] = 2 if wrong_mark else 1
+        wanted = first_of((32, 30, 31, 32, 10), reasons, 11)
+        expect(f'{kind.word}, reasons {reasons}', box.whole(
+            bytes(6000 if long else 0), 2 if no_player else 1), (wanted, 0))
+
+
+def check_back_order():
+    """Each choice of reasons at once: 32, 30, 31, 17, else 40."""
+    for kind, *reasons in product(KINDS, *((False, True),) * 4):
+        no_kind, short, no_player, unknown = reasons
+        box = Box(kind)
+        # no amp model is 255
+        box.memory[:] = b'\xFF' * len(box.memory)
+        box.kind_number = 3 if no_kind else kind.number
+        box.lent[0] -= short
+        expect(f'{kind.word}, reasons {reasons}',
+               box.back(0 if unknown else 12, 2 if no_player else 1),
+               ('refused', first_of((32, 30, 31, 17), reasons, 40)))
+
+
+def check_screens():
+    """Each program and own buffer, and programs above 0x23."""
+    for kind, player in product(KINDS, (0, 1)):
+        box, size = numbered_box(kind), SIZES[kind]
+        programs, own = box.memory[:36 * size], bytes((37 + player,)) * size
+        # of longer slices, the first bytes
+        for lent in ((programs, own), (box.memory, own + b'\xEE')):
+            case = f'{kind.word}, screen of {player}'
+            for program in range(36):
+                expect(case, box.screen(program, 0, player, *lent),
+                       (0, bytes((program + 1,)) * size))
+            for program in (36, 37, 127, 255, 256, 65536, 1 << 24, 2**32 - 1):
+                expect(case, box.screen(program, 0, player, *lent), (14, b''))
+            for program, own_number in product(
+                    (0, 35, 36, 2**32 - 1),
+                    (1, 2, 256, 65536, 1 << 24, 2**32 - 1)):
+                expect(case, box.screen(program, own_number, player, *lent),
+                       (0, own))
+        for wrong in WRONG:
+            expect(case, box.screen(0, 0, wrong, programs, own), (31, b''))
+
+
+def check_screen_order():
+    """Each choice of reasons at once: 32, 30, 30, 31, 14."""
+    for kind, own, *reasons in product(KINDS, (0, 1), *((False, True),) * 5):
+        no_kind, few, short, no_player, above = reasons
+        box, size = numbered_box(kind), SIZES[kind]
+        box.kind_number = 3 if no_kind else kind.number
+        number, part = box.screen(
+            36 if above else 35, own, 2 if no_player else 1,
+            bytes(36 * size - few), bytes(size - short))
+        case = f'{kind.word}, own {own}, reasons {reasons}'
+        # "for the screen then 14": where a program is asked for
+        expect(case, number, first_of((32, 30, 30, 31, 14), (
+            *reasons[:4], above and own == 0)))
+        # "a refusal hands it an empty part of the programs"
+        expect(case, len(part), 0 if number else size)
+
+
 def check():
     """Raise on the first wrong case."""
     check_halves()
@@ -879,6 +1087,17 @@ def check():
     check_either()
     check_gain_lists()
     check_as_pod()
+    check_fresh()
+    check_own()
+    check_sent()
+    check_named()
+    check_rotary()
+    check_shared()
+    check_no_players()
+    check_whole_order()
+    check_back_order()
+    check_screens()
+    check_screen_order()
 
 
 check()

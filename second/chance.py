@@ -3,16 +3,17 @@
 from box import REPLY
 from judging import WRONG_SETTINGS
 from kinds import (ALL, AMP_BORDERS, EDIT, EVERY_CONTROLLER, KINDS,
-                   MARK_COUNT, PROGRAM, PROGRAMS, START, around, others,
-                   strangers)
+                   MARK_COUNT, PLAYERS, PROGRAM, PROGRAMS, START, around,
+                   edit_place, others, strangers)
 from lent import (COUNTS, NO_CONTROLLERS, NO_SOCKETS, VALUES, fill,
                   numbers_for, select, sound, unsound)
 from messages import (changed, dump, edit_with, identity, in_each_length,
                       noise, request, resized, wave, waves)
 from moves import MOST
 from player import MARK_ROOM, MEMORY_ROOM, PARTS, ROOMS
+from screens import NO_PROGRAMS, OWNS
 from sockets import CHANGES
-from switched import NO_KINDS
+from switched import NO_KINDS, NO_PLAYERS
 
 REAL_TIME = range(0xF8, 0x100)  # "F8 to FF"
 BORDERS = (*range(8), *AMP_BORDERS, 63, 64, 126, 127)  # of values
@@ -208,8 +209,15 @@ def add_calls(script, chance):
             lambda: script.moves(short_list(kind, chance)),
             lambda: script.scale(chance.choice(VALUES)),
             lambda: script.back(chance.choice(EVERY_CONTROLLER)),
-            lambda: script.amp(chance.choice(VALUES))))
+            lambda: script.amp(chance.choice(VALUES)),
+            lambda: ask_screen(script, chance)))
         call()
+
+
+def ask_screen(script, chance):
+    """Ask for a screen's part: a program, or the own buffer."""
+    script.screen(chance.choice((*range(PROGRAMS), *NO_PROGRAMS)),
+                  chance.choice((0, chance.choice(OWNS))))
 
 
 def turn_settings(script, chance):
@@ -256,6 +264,35 @@ def turn_no_kind(script, chance):
     script.bring_back()
 
 
+def turn_player(script, chance):
+    """Name one of the players from now on."""
+    script.turn_to(chance.choice(PLAYERS))
+
+
+def turn_no_player(script, chance):
+    """A few calls that name a number that is no player's."""
+    script.name(chance.choice(NO_PLAYERS))
+    script.add('W')
+    script.add('V')
+    script.back(chance.choice(EVERY_CONTROLLER))
+    ask_screen(script, chance)
+    add_calls(script, chance)
+    script.name_back()
+
+
+def turn_screen(script, chance):
+    """Screens of what they want lent, and of slices at random."""
+    kind = script.kind
+    ask_screen(script, chance)
+    script.lend_screen(
+        chance.choice((kind.programs_length, kind.programs_length - 1,
+                       chance.randrange(MEMORY_ROOM))),
+        chance.choice((MEMORY_ROOM - kind.size, MEMORY_ROOM - kind.size + 1,
+                       chance.randrange(MEMORY_ROOM))))
+    ask_screen(script, chance)
+    script.lend_screen_back()
+
+
 def turn_other(script, chance):
     """A few calls that bring another kind with what is lent now."""
     script.bring(chance.choice(others(script.kind)).number)
@@ -291,7 +328,7 @@ def turn_stale(script, chance):
 def turn_socket(script, chance):
     """Send bytes on no socket, or on what may be one."""
     wide = chance.randrange(3) + (chance.randrange(256) << 24)
-    script.send(chance.choice((*NO_SOCKETS, wide)), 
+    script.send(chance.choice((*NO_SOCKETS, wide)),
                 asking(script.kind, chance)[:4])
 
 
@@ -436,7 +473,7 @@ def turn_spare(script, chance):
     kind, program = script.kind, chance.randrange(PROGRAMS)
     place, asked = chance.choice((
         (program, request(kind, PROGRAM, program)),
-        (PROGRAMS, request(kind, EDIT))))
+        (edit_place(script.player), request(kind, EDIT))))
     script.poke(kind.part(place).stop - 1, chance.randrange(256))
     script.mark(place, chance.randrange(2))
     script.whole(asked)
@@ -446,6 +483,7 @@ def turn_spare(script, chance):
 TURNS = {
     turn_settings: 4, turn_wrong: 3, turn_short: 4, turn_long: 3,
     turn_kind: 4, turn_no_kind: 2, turn_other: 2,
+    turn_player: 10, turn_no_player: 2, turn_screen: 4,
     turn_unsound: 4, turn_receiver: 3, turn_stale: 2, turn_socket: 2,
     turn_message: 5, turn_long_message: 1, turn_length: 1, turn_byte: 3,
     turn_whole: 4, turn_feed: 6, turn_scale: 4, turn_back: 3, turn_field: 6,

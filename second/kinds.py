@@ -13,8 +13,11 @@ from itertools import chain
 from controllers import TOP, read_page
 
 PROGRAMS = 36  # "36 programs (0x00 to 0x23, shown 1A to 9D)"
+# Req 08: "socket 0 is player one and socket 1 player two; each has an edit
+# buffer"
+ONE, TWO = PLAYERS = 0, 1
 # Req 06: "Each program and the edit buffer now carry a mark"
-MARK_COUNT = PROGRAMS + 1
+MARK_COUNT = PROGRAMS + len(PLAYERS)
 START, END = 0xF0, 0xF7
 REQUEST, DUMP = 0, 1          # opcodes
 PROGRAM, EDIT, ALL = 0, 1, 2  # types
@@ -48,19 +51,18 @@ class Kind:
         return len(self.sizes) > 1
 
     def part(self, place):
-        """Return a program's part of memory, or the edit buffer's."""
-        # "programs in number order, then the edit buffer"
+        """Return a program's part of memory, or an edit buffer's."""
         return slice(place * self.size, (place + 1) * self.size)
 
     @property
-    def edit_start(self):
-        """Return where the edit buffer begins."""
-        return self.part(PROGRAMS).start
+    def programs_length(self):
+        """Return the length of the programs."""
+        return PROGRAMS * self.size
 
     @property
     def memory_length(self):
-        """Return the length of the programs and the edit buffer."""
-        return self.part(PROGRAMS).stop
+        """Return the length of the programs and both edit buffers."""
+        return MARK_COUNT * self.size
 
     @property
     def halves(self):
@@ -227,6 +229,13 @@ BY_NUMBER = {kind.number: kind for kind in KINDS}
 BY_WORD = {kind.word: kind for kind in KINDS}
 EVERY_CONTROLLER = tuple(dict.fromkeys(
     controller for kind in KINDS for controller in kind.table))
+
+
+def edit_place(player):
+    """Return the place of a player's edit buffer, and of its mark."""
+    # "programs in number order, then the edit buffer"; Req 08: "Memory grows
+    # by one edit buffer, player two's, last."
+    return PROGRAMS + player
 
 
 def others(kind):

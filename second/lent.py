@@ -1,19 +1,24 @@
-"""The script of what is lent, scaled, shown back and known: 30 to 34, 40."""
+"""The script of what is lent, scaled, shown back and known: 30 to 34, 40.
+
+It has the wrong players and the screens too.
+"""
 
 from itertools import permutations, product
 
 from box import MARKS, MEMORY, RECEIVE, RECEIVED, REPLY
 from controllers import SELECTOR
+from duo import add_backs, add_no_players
 from judging import wrong_settings
 from kinds import (ALL, AMP_BORDERS, EDIT, EVERY_CONTROLLER, KINDS,
-                   MARK_COUNT, PROGRAMS, START, around)
+                   MARK_COUNT, PLAYERS, PROGRAMS, START, around)
 from messages import (dump, edit_with, identity, in_each_length, noise,
                       request, wave)
-from player import MARK_ROOM, MEMORY_ROOM, MESSAGE_ROOM, ROOMS
+from player import MARK_ROOM, MEMORY_ROOM, MESSAGE_ROOM, OWN_LENT, ROOMS
 from scenes import add_counts, add_list_order, add_no_sockets_lent
+from screens import add_screens
 from script import REVISION, Script
-from switched import (NO_KINDS, add_calls, add_no_kinds, add_other_buffers,
-                      add_switched, mend, spoil)
+from switched import (NO_KINDS, NO_PLAYERS, add_calls, add_no_kinds,
+                      add_other_buffers, add_switched, mend, spoil)
 
 HOLDING = {'running': 0xB0, 'held': 1}
 # Counts of stored bytes around the limit of each kind, and between them.
@@ -92,7 +97,7 @@ def add_beyond(script):
     most = max(kind.memory_length for kind in KINDS)
     for place in range(most, MEMORY_ROOM):
         script.poke(place, place % 256)
-    for place, mark in enumerate((2, 0, 0xFF), MARK_COUNT):
+    for place, mark in zip(range(MARK_COUNT, MARK_ROOM), (2, 0xFF)):
         script.mark(place, mark)
 
 
@@ -109,7 +114,7 @@ def add_odd(script):
     script.add('R', 0xFE, 0xFF, 0x55)       # revision byte 2
     script.poke(MEMORY_ROOM + 9, 0x77)
     script.mark(5 * MARK_ROOM + 3, 0)       # the fourth program's
-    script.lend(len(ROOMS) + REPLY, script.kind.least[REPLY])
+    script.lend(OWN_LENT + 1 + REPLY, script.kind.least[REPLY])
     for part in (7, 8 + 4, 0xFF):           # no part, running, no part
         script.add('E', part, 3, 0xB0)
     script.send_hex(1, '0D 7F F7')
@@ -148,6 +153,7 @@ def add_lengths(script, buffer, lengths):
         script.back(13, 0)
         script.scale(5)
         script.amp(15)
+        script.screen(35, 0, 1)
     script.lend_back(buffer)
 
 
@@ -206,12 +212,13 @@ def add_other(script):
 
 
 def add_whole_order(script):
-    """Every choice of reasons for 32, 30, one for 32, 10 and 11 at once."""
+    """Every choice of reasons for 32, 30, 31, 32, 10 and 11 at once."""
     kind = script.kind
-    choices = product((None, MEMORY, MARKS, REPLY), (False, True), (
-        None, 'setting', 'mark'), (False, True), (False, True))
-    for short, no_kind, wrong, long, unframed in choices:
-        spoil(script, no_kind, short)
+    either = False, True
+    choices = product((None, MEMORY, MARKS, REPLY), either, either, (
+        None, 'setting', 'mark'), either, either)
+    for short, no_kind, no_player, wrong, long, unframed in choices:
+        spoil(script, no_kind, short, no_player)
         script.revision(3, 0x80 if wrong == 'setting' else REVISION[3])
         script.mark(0, 2 if wrong == 'mark' else RECEIVED)
         message = b'\xF0' + wave(3, kind.longest if long else 20) + b'\xF7'
@@ -232,7 +239,7 @@ def add_no_sockets(script, numbers):
 
 
 def add_wrong_settings(script):
-    """Settings out of range: every call is 32, but K, D and G."""
+    """Settings out of range: every call is 32, but K, D, G and X."""
     for _ in wrong_settings(script, script.whole):
         for socket in (0, 1):
             script.send_hex(socket, 'F8 B0')
@@ -241,6 +248,7 @@ def add_wrong_settings(script):
         script.scale(5)
         script.back(13)
         script.amp(15)
+        script.screen(35, 0, 1)
 
 
 def add_wrong_marks(script, places, marks):
@@ -273,15 +281,15 @@ def add_scaling(script, controllers, values):
 
 
 def fill(script, field, number):
-    """Write a number into a field of the edit buffer."""
+    """Write a number into a field of the player's edit buffer."""
     for place in field:
-        script.poke(script.kind.edit_start + place, number % 256)
+        script.poke(script.edit_start + place, number % 256)
         number //= 256
 
 
 def select(script, setting):
-    """Set byte 46."""
-    script.poke(script.kind.edit_start + SELECTOR, setting)
+    """Set byte 46 of the player's edit buffer."""
+    script.poke(script.edit_start + SELECTOR, setting)
 
 
 def numbers_for(rule):
@@ -309,13 +317,13 @@ def add_back(script, controller):
 
 
 def add_back_order(script):
-    """Every choice of reasons for 32, 30, 17, 19 and 40 at once."""
+    """Every choice of reasons for 32, 30, 31, 17, 19 and 40 at once."""
     # the last one wants an effect, where the kind has any that does
     *_, (controller, rule) = script.kind.table.items()
     either = False, True
-    choices = product(either, (None, MEMORY), either, either, either)
-    for no_kind, short, unknown, unselected, no_value in choices:
-        spoil(script, no_kind, short)
+    choices = product(either, (None, MEMORY), *(either,) * 4)
+    for no_kind, short, no_player, unknown, unselected, no_value in choices:
+        spoil(script, no_kind, short, no_player)
         select(script, 6 if unselected else (rule.chosen_by or (0,))[0])
         fill(script, rule.field, 0xFF if no_value else 1)
         script.back(65536 + controller if unknown else controller)
@@ -365,8 +373,12 @@ def add_all(script):
     script.amp(*VALUES)
     for controller in kind.table:
         add_back(script, controller)
-    script.back(*EVERY_CONTROLLER, *NO_CONTROLLERS)
-    add_back_order(script)
+    add_backs(script, (*EVERY_CONTROLLER, *NO_CONTROLLERS))
+    for player in PLAYERS:
+        script.turn_to(player)
+        add_back_order(script)
+    add_no_players(script, NO_PLAYERS)
+    add_screens(script, range(PROGRAMS))
 
 
 def make_lent():

@@ -38,7 +38,7 @@ def dumps(kind):
     """Yield dumps of each type, good and damaged, and requests for them."""
     one = dump(kind, PROGRAM, halves(kind.size, 3), 0x23)
     edit = dump(kind, EDIT, halves(kind.size, 5))
-    every = dump(kind, ALL, halves(kind.edit_start, 7))
+    every = dump(kind, ALL, halves(kind.programs_length, 7))
     asked = (request(kind, PROGRAM, 0x23), request(kind, EDIT),
              request(kind, ALL))
     for good in chain.from_iterable(

@@ -7,14 +7,16 @@ socket. A box whose dumps have one length neither reads nor writes marks.
 
 from box import NOT_RECEIVED, RECEIVED
 from judging import show
-from kinds import ALL, EDIT, KINDS, PROGRAM, PROGRAMS, around
+from kinds import (ALL, EDIT, KINDS, PLAYERS, PROGRAM, PROGRAMS, around,
+                   edit_place)
 from messages import (changed, data_start, dump, dumps, long_dumps, noise,
                       request, resized, waves)
 from scenes import EVERY_NUMBER
 
-# The first and the last program, 0x11 (which dumps name) and its neighbours,
-# and the edit buffer.
-PLACES = (0, 0x10, 0x11, 0x12, 0x23, PROGRAMS)
+# The first and the last program, 0x11 (which dumps name) and its neighbours.
+NAMED = (0, 0x10, 0x11, 0x12, 0x23)
+# These, and the edit buffers.
+PLACES = (*NAMED, *map(edit_place, PLAYERS))
 # Lengths around the right ones of every kind, going down.
 AROUND = around(length for kind in KINDS
                 for length in kind.every_length)[::-1]
@@ -22,7 +24,7 @@ AROUND = around(length for kind in KINDS
 
 def asking(kind):
     """Return requests of each type: programs, edit buffer, all programs."""
-    return (*(request(kind, PROGRAM, place) for place in PLACES[:-1]),
+    return (*(request(kind, PROGRAM, program) for program in NAMED),
             request(kind, EDIT), request(kind, ALL))
 
 
@@ -82,15 +84,16 @@ def add_spares(script, hand):
             hand(asked)
 
 
-def add_unmoved(script, socket):
+def add_unmoved(script, player):
     """Moves, lists and program changes, under marks of either sort."""
+    script.turn_to(player)
     for mark, other in ((RECEIVED, NOT_RECEIVED), (NOT_RECEIVED, RECEIVED)):
-        for place in PLACES[:-1]:
+        for place in PLACES:
             script.mark(place, mark)
-        script.mark(PROGRAMS, other)
-        script.send_hex(socket, 'B0 0D 11 C0 01 12 24 F7')
+        script.mark(edit_place(player), other)
+        script.send_hex(player, 'B0 0D 11 C0 01 12 24 F7')
         script.moves_hex(EVERY_NUMBER)
-        script.send(socket, request(script.kind, EDIT))
+        script.send(player, request(script.kind, EDIT))
 
 
 def add_between(kind, hand):

@@ -2,7 +2,7 @@
 
 from box import END_BYTE
 from judging import add_forms, show, wrong_settings
-from kinds import EDIT, END, KINDS, START, around
+from kinds import EDIT, END, KINDS, ONE, START, TWO, around
 from marks import add_marks
 from messages import (PAD, all_forms, changed, edit_with, forms, identity,
                       request, resized, wave)
@@ -78,9 +78,11 @@ def make_whole():
     script = Script()
     for kind in KINDS:
         script.become(kind)
+        script.turn_to(ONE)
         add_lengths(script)
         add_frames(script)
         add_forms(script, script.whole, 97)
+        script.turn_to(TWO)
         add_middles(script)
         add_shortest(script)
         add_longest(script)

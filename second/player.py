@@ -3,27 +3,32 @@
 from collections import Counter
 from operator import mul
 
-from box import REPLIED, REPLY, TAKEN, Box
+from box import NO_PLAYER, REPLIED, REPLY, TAKEN, Box
 from controllers import APPLIED, NOT_SELECTED, OUT_OF_RANGE, UNKNOWN
-from kinds import KINDS, POD
+from kinds import KINDS, ONE, POD
 from moves import carry_out, in_pairs
 
 MESSAGE_ROOM = 8192  # "a message buffer of 8,192 bytes"
-MEMORY_ROOM = 3000   # "memory of 3,000 bytes"
+MEMORY_ROOM = 3100   # "memory of 3,100 bytes"
 BUFFER_ROOM = 5800   # receive and reply buffers "of 5,800 bytes"
 MARK_ROOM = 40       # "marks of 40 bytes"
 ROOMS = (MEMORY_ROOM, BUFFER_ROOM, BUFFER_ROOM, BUFFER_ROOM, MARK_ROOM)
+# what Z calls the two slices of memory that X lends
+PROGRAMS_LENT, OWN_LENT = len(ROOMS), len(ROOMS) + 1
 REFUSED = 65536      # "the value, or 65,536 + the refusal number"
 VALUE = 'value'      # stands for all values among the numbers given
+PART = 'part'        # stands for 0 where a screen is handed a part
+WRONG_PLAYER = 'player 31'  # stands for 31 where a player is named
 MOVE = 'n'           # stands for a call's letter where a move is counted
 # a row for each answer to whether an amp model is known
 KNOWN = {1: 'known', 0: 'not known'}
 # a row for each number that is noted for a move
 MOVED = {number: f'move {number}' for number in (
     APPLIED, UNKNOWN, OUT_OF_RANGE, NOT_SELECTED)}
-# "Numbers the box returns", a row for values, those of amp models, of moves
+# "Numbers the box returns", a row for values, those of amp models, of moves,
+# of screens and of wrong players
 ROWS = (*range(5), *range(10, 23), *range(30, 35), 40, VALUE,
-        *KNOWN.values(), *MOVED.values())
+        *KNOWN.values(), *MOVED.values(), PART, WRONG_PLAYER)
 # "stored + 2^16 x inside + 2^24 x over + 2^32 x running + 2^40 x held + 2^48
 # x waiting"
 PLACES = {'stored': 0, 'inside': 16, 'over': 24, 'running': 32, 'held': 40,
@@ -92,7 +97,7 @@ def weigh(data, start):
     return sum(map(mul, range(start + 1, start + 1 + len(data)), data))
 
 
-class Player:
+class Replay:
     """The program that plays a script."""
 
     def __init__(self):
@@ -104,18 +109,23 @@ class Player:
         self.digests = [Digest(buffer) for buffer in (
             self.box.memory, self.box.marks, self.box.reply,
             *self.box.receive)]
+        # of memory, what X lends: how many first bytes, from which place on
+        self.screen_lent = {PROGRAMS_LENT: POD.programs_length,
+                            OWN_LENT: POD.programs_length}
         self.controller = 0
+        self.player = ONE
         self.calls = 0
-        # how many calls gave (the kind's number, letter, number), and how
-        # many moves (the kind's number, MOVE, row)
+        # how many calls gave (the kind's number, letter, row), and how many
+        # moves (the kind's number, MOVE, row)
         self.given = Counter()
         self.changing = {'Y': self.poke, 'A': self.set_mark,
                          'C': self.set_channel, 'R': self.set_revision,
                          'Z': self.lend, 'E': self.set_receiver,
-                         'N': self.set_controller, 'T': self.set_kind}
+                         'N': self.set_controller, 'T': self.set_kind,
+                         'O': self.set_player}
         self.calling = {'W': self.whole, 'S': self.take, 'M': self.feed,
                         'K': self.scale, 'D': self.back, 'G': self.amp,
-                        'V': self.move}
+                        'V': self.move, 'X': self.screen}
 
     def play(self, op, a, b, v):
         """Do one command; return its lines."""
@@ -129,7 +139,7 @@ class Player:
         return ()
 
     def poke(self, a, b, v):
-        """Do Y: "memory byte n % 3,000 is v"."""
+        """Do Y: "memory byte n % 3,100 is v"."""
         self.box.memory[(a + 256 * b) % MEMORY_ROOM] = v
 
     def set_mark(self, a, b, v):
@@ -145,8 +155,14 @@ class Player:
         self.box.settings.revision[a % 4] = v
 
     def lend(self, a, b, v):
-        """Do Z: "the first n bytes are lent", "at most its own length"."""
-        self.box.lent[v % 5] = min(a + 256 * b, ROOMS[v % 5])
+        """Do Z: "by v % 7, from now on"."""
+        what, n = v % 7, a + 256 * b
+        if what in self.screen_lent:
+            # "n at most 3,100"
+            self.screen_lent[what] = min(n, MEMORY_ROOM)
+        else:
+            # "the first n bytes are lent, at most its own length"
+            self.box.lent[what] = min(n, ROOMS[what])
 
     def set_receiver(self, a, b, v):
         """Do E: "part a % 8 of the receiver of socket b % 2 is v"."""
@@ -167,9 +183,14 @@ class Player:
         """Do T: "the kind's number is n + 2^24 x v"."""
         self.box.kind_number = widened(a, b, v)
 
+    def set_player(self, a, b, v):
+        """Do O: "the player's number is n + 2^24 x v"."""
+        self.player = widened(a, b, v)
+
     def whole(self, *_):
         """Do W."""
-        return self.lines('W', *self.box.whole(self.message.content()))
+        return self.lines('W', *self.box.whole(self.message.content(),
+                                               self.player))
 
     def take(self, a, b, v):
         """Do S: "byte v on socket a + 2^24 x b"."""
@@ -188,7 +209,7 @@ class Player:
 
     def back(self, *_):
         """Do D."""
-        return self.asked('D', *self.box.back(self.controller))
+        return self.asked('D', *self.box.back(self.controller, self.player))
 
     def amp(self, a, b, v):
         """Do G: "whether amp model n + 2^24 x v is known"."""
@@ -199,7 +220,7 @@ class Player:
         moves = in_pairs(self.message.content())
         # "the reply buffer, of which as much is lent as Z says"
         numbers = memoryview(self.box.reply)[:self.box.lent[REPLY]]
-        number = carry_out(self.box, moves, numbers)
+        number = carry_out(self.box, moves, numbers, self.player)
         line = self.line('V', self.count('V', number), number, 0)
         if number != TAKEN:
             return (line,)
@@ -209,8 +230,23 @@ class Player:
         # "a further line has the letter n, a tab and .. the numbers"
         return line, tabbed('n', noted.hex())
 
+    def screen(self, a, b, v):
+        """Do X: "the part that the screen is handed"."""
+        programs = self.box.memory[:self.screen_lent[PROGRAMS_LENT]]
+        buffer = self.box.memory[self.screen_lent[OWN_LENT]:]
+        number, part = self.box.screen(self.controller, widened(a, b, v),
+                                       self.player, programs, buffer)
+        at = self.count('X', PART if number == TAKEN else number)
+        line = tabbed('X', at, number, len(part), weigh(part, 0))
+        if number != TAKEN:
+            return (line,)
+        # "a further line has the letter x, a tab and the part's bytes"
+        return line, tabbed('x', part.hex())
+
     def count(self, letter, number):
         """Count a call and what it gave; return its count."""
+        if number == NO_PLAYER and letter != 'S':
+            number = WRONG_PLAYER
         self.given[self.box.kind_number, letter, number] += 1
         self.calls += 1
         return self.calls - 1
@@ -264,15 +300,15 @@ def tabbed(*fields):
 
 
 def play(script):
-    """Play a script; return its lines and the player as it is left."""
-    player = Player()
+    """Play a script; return its lines and what was given."""
+    replay = Replay()
     lines = []
     # "A rest of fewer than 4 bytes at the end is ignored"
     for start in range(0, len(script) - 3, 4):
         op, a, b, v = script[start:start + 4]
-        lines.extend(player.play(chr(op), a, b, v))
-    lines.extend(player.end())
-    return lines, player
+        lines.extend(replay.play(chr(op), a, b, v))
+    lines.extend(replay.end())
+    return lines, replay.given
 
 
 def rows_of(kind):

@@ -8,7 +8,8 @@ from itertools import chain, product
 
 from box import MEMORY, RECEIVE, REPLY
 from controllers import SELECTOR
-from kinds import ALL, AMP_BORDERS, EDIT, KINDS
+from duo import ask_both
+from kinds import ALL, AMP_BORDERS, EDIT, KINDS, ONE, TWO
 from messages import dump, edit_with, noise, request, wave, waves
 from moves import MOST
 from player import MESSAGE_ROOM
@@ -53,13 +54,13 @@ def add_counts(script):
 
 
 def add_list_order(script):
-    """Every choice of reasons for 33, 34, 32, 30 and 32 at once."""
+    """Every choice of reasons for 33, 34, 32, 30, 31 and 32 at once."""
     either = False, True
-    choices = product(either, either, either, (None, MEMORY), either)
-    for many, no_room, no_kind, short, wrong_setting in choices:
+    choices = product(either, either, either, (None, MEMORY), either, either)
+    for many, no_room, no_kind, short, no_player, wrong_setting in choices:
         count = MOST + 1 if many else MOST
         script.lend(REPLY, count - 1 if no_room else count)
-        spoil(script, no_kind, short)
+        spoil(script, no_kind, short, no_player)
         if wrong_setting:
             script.settings(16, 0)
         script.moves(wave(3, 2 * count))
@@ -136,18 +137,22 @@ def add_our_channel(script):
 
 def add_among(script):
     """Lists while both sockets have something half received."""
-    kind = script.kind
-    given = dump(kind, EDIT, noise(9, kind.halves))
+    given = dump(script.kind, EDIT, noise(9, script.kind.halves))
     script.feed(0, given[:80])
     script.send_hex(1, 'B0 13 02 37')
-    # byte 46 changes under a waiting controller
+    # byte 46 changes under a waiting controller: the other's, then its own
+    script.turn_to(ONE)
+    script.moves_hex('13 05')
+    script.send_hex(1, '7F 37')
+    script.turn_to(TWO)
     script.moves_hex('13 01')
     script.send_hex(1, '7F 37')
     script.moves_hex('13 02 0D 11')
     script.send_hex(1, '7F C0 01 C0')
     script.moves_hex('0C 05 0D 22')
     script.send_hex(1, '02 B0')
-    # the dump is stored over the list's moves, and moved again
+    # the dump is stored over its player's moves, and moved again
+    script.turn_to(ONE)
     script.feed(0, given[80:-1])
     script.moves_hex(EVERY_NUMBER)
     script.send_hex(0, 'F7')
@@ -156,7 +161,7 @@ def add_among(script):
     script.send_hex(1, '0D 64 F0')
     script.moves_hex('0D 33')
     script.send_hex(1, 'F6 F7')
-    script.whole(request(kind, EDIT))
+    ask_both(script)
 
 
 def add_list_pieces(script, piece):

@@ -1,20 +1,21 @@
 """Write a script in the form of REPLAY.md."""
 
 from box import Settings
-from kinds import POD
+from kinds import ONE, POD, edit_place
 from messages import SEGMENT
-from player import PARTS, Message, wave
+from player import OWN_LENT, PARTS, PROGRAMS_LENT, Message, wave
 
 WORTH_P = 8  # so many changes at once are worth a P
 REVISION = bytes(Settings().revision)
 
 
 class Script:
-    """The commands written so far; the message and the kind they leave."""
+    """The commands written so far; message, kind and player they leave."""
 
     def __init__(self, kind=POD):
         self.commands = bytearray()
         self.message = Message()
+        self.player = ONE
         self.kind = POD  # at first the kind's number and what is lent are
         if kind is not POD:
             self.become(kind)
@@ -79,7 +80,7 @@ class Script:
         self.add('Y', place % 256, place // 256, byte)
 
     def mark(self, place, mark):
-        """Set a mark: a program's, the edit buffer's or one behind."""
+        """Set a mark: a program's, an edit buffer's or one behind."""
         self.add('A', place, 0, mark)
 
     def lend(self, buffer, length):
@@ -104,6 +105,35 @@ class Script:
         self.bring_back()
         for buffer in range(len(kind.least)):
             self.lend_back(buffer)
+        self.lend_screen_back()
+
+    def name(self, number):
+        """Name this number n + 2^24 x v as the player's from now on."""
+        self.add_wide('O', number)
+
+    def turn_to(self, player):
+        """Name a player from now on, and lend a screen its buffer."""
+        self.player = player
+        self.name_back()
+        self.lend_screen_back()
+
+    def name_back(self):
+        """Name the player that was turned to."""
+        self.name(self.player)
+
+    @property
+    def edit_start(self):
+        """Return where the edit buffer of the player turned to begins."""
+        return self.kind.part(edit_place(self.player)).start
+
+    def lend_screen(self, length, place):
+        """Lend a screen so many first bytes, and memory from a place on."""
+        self.lend(PROGRAMS_LENT, length)
+        self.lend(OWN_LENT, place)
+
+    def lend_screen_back(self):
+        """Lend a screen the programs and its player's buffer."""
+        self.lend_screen(self.kind.programs_length, self.edit_start)
 
     def receiver(self, socket, stored=0, **parts):
         """Set all of a receiver; a part that is not named is 0."""
@@ -127,6 +157,12 @@ class Script:
         for controller in controllers:
             self.controller(controller)
             self.add('D')
+
+    def screen(self, program, *owns):
+        """Ask for a screen's part, with numbers own n + 2^24 x v."""
+        self.controller(program)
+        for own in owns:
+            self.add_wide('X', own)
 
     def amp(self, *models):
         """Ask whether amp models n + 2^24 x v are known."""

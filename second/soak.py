@@ -16,7 +16,8 @@ from random import Random, SystemRandom
 
 from brief import add_opening
 from chance import add_random
-from kinds import KINDS
+from isolation import play_duo
+from kinds import KINDS, PLAYERS
 from player import MOVE, play, rows_of, tally
 from replay import SCRIPTS, histogram
 from script import Script
@@ -45,17 +46,19 @@ class Soak:
         self.scripts = 0
         self.printed = 0
         self.given = Counter()
+        self.pairs = 0   # of runs of a duo
+        self.unlike = 0  # of these, with unlike buffers of the other player
 
     def compare(self, script):
         """Play a script both ways; return its lines where they are equal."""
-        lines, player = play(script)
+        lines, given = play(script)
         wanted = ''.join(lines).encode()
         got = play_in_c(script)
         if got != wanted:
             raise Difference(first_difference(got, wanted), script)
         self.scripts += 1
         self.printed += len(wanted)
-        self.given += player.given
+        self.given += given
         return wanted.decode().splitlines()
 
     def compare_seed(self, seed):
@@ -64,11 +67,20 @@ class Soak:
         for calm in CALM:
             self.compare(random_script(chance, calm))
         for kind in KINDS:
-            self.compare_plan(kind, chance)
+            self.hold(kind, play_plan(kind, chance, self.compare))
+            for player in PLAYERS:
+                self.compare_duo(kind, player, chance)
 
-    def compare_plan(self, kind, chance):
-        """Compare the runs of a plan for a box of this kind."""
-        for what, one, other, *found in play_plan(kind, chance, self.compare):
+    def compare_duo(self, kind, player, chance):
+        """Compare two runs in which the player's part is the same."""
+        *pair, others = play_duo(kind, player, chance, self.compare)
+        self.hold(kind, [pair])
+        self.pairs += 1
+        self.unlike += others[0] != others[1]
+
+    def hold(self, kind, pairs):
+        """Hold pairs of runs of a box of this kind against each other."""
+        for what, one, other, *found in pairs:
             if found[0] != found[1]:
                 raise Difference(f'{kind.word}, {what}: '
                                  f'{first_unlike(*found)}', one, other)
@@ -82,7 +94,8 @@ class Soak:
         print(f'{self.scripts} scripts, {sum(letters.values())} calls, '
               f'{letters["S"]} bytes on sockets, {letters["V"]} lists with '
               f'{moves} moves carried out, {self.printed} bytes printed and '
-              f'compared, {seconds:.0f} s')
+              f'compared, {self.pairs} pairs of runs of a duo, {self.unlike} '
+              f'with unlike buffers of the other player, {seconds:.0f} s')
         sys.stdout.writelines(histogram(self.given))
 
 
@@ -160,7 +173,10 @@ def compare(soak, name):
 
 
 def main():
-    """Compare until the time is up; each kind must have given every number."""
+    """Compare until the time is up, and see that enough was tried.
+
+    Each kind must have given every number, and most pairs really differ.
+    """
     parser = argparse.ArgumentParser(prog='tests/soak')
     parser.add_argument('seconds', nargs='?', type=float, default=60)
     parser.add_argument('--seed', type=int, help='this one seed alone')
@@ -175,6 +191,8 @@ def main():
         missing = rows_of(kind) - {*rows}
         if missing:
             sys.exit(f'never given, {kind.word}: {missing}')
+    if 2 * soak.unlike < soak.pairs:
+        sys.exit('most pairs of runs do not differ')
 
 
 if __name__ == '__main__':

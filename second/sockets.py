@@ -1,11 +1,12 @@
 """The script of bytes on sockets, and of lists of moves among them."""
 
 from functools import partial
-from itertools import zip_longest
 
 from box import END_BYTE
+from duo import PAIRS, add_duo, ask_both, mix
 from judging import add_forms, show
-from kinds import ALL, AMP_BORDERS, EDIT, KINDS, PROGRAM, START
+from kinds import (ALL, AMP_BORDERS, EDIT, KINDS, ONE, PLAYERS, PROGRAM,
+                   START, TWO)
 from marks import PLACES, add_in_turn, add_one_clear, add_unmoved, asking
 from messages import (PAD, all_forms, changed, dump, dumps, edit_with,
                       identity, inserted, noise, request, resized, wave,
@@ -146,19 +147,22 @@ def add_changes(script, socket):
 def add_recalled(script):
     """A program that is stored, recalled, moved and stored over again."""
     kind = script.kind
-    for seed, program in enumerate((0, 0x23)):
-        script.feed(0, dump(kind, PROGRAM, noise(seed, kind.halves), program))
-        # a change half received while the other socket stores
-        script.send_hex(1, 'C0')
+    for (player, other), program in zip(PAIRS, (0, 0x23)):
+        given = dump(kind, PROGRAM, noise(player, kind.halves), program)
+        script.feed(other, given)
+        # a change half received while the panel stores
+        script.send_hex(player, 'C0')
+        script.turn_to(player)
         script.whole(edit_with(kind, {46: 2}))
-        script.send(1, (program + 1,))
-        script.whole(request(kind, EDIT))
+        script.send(player, (program + 1,))
+        ask_both(script)
         # moves do not reach the program itself
-        script.send_hex(0, 'B0 0C 03 0D 7F 13 02 F7')
+        script.send_hex(player, 'B0 0C 03 0D 7F 13 02 F7')
         script.whole(request(kind, PROGRAM, program))
         # storing the program again does not reach the edit buffer
-        script.feed(1, dump(kind, PROGRAM, wave(seed, kind.halves), program))
-        script.whole(request(kind, EDIT))
+        script.feed(other, dump(kind, PROGRAM, wave(player, kind.halves),
+                                program))
+        ask_both(script)
 
 
 def add_controllers(script, socket, values, controllers=range(128)):
@@ -226,14 +230,6 @@ def add_refusals(script, socket):
             hand(resized(message, length))
 
 
-def mix(script, *streams):
-    """Send bytes on both sockets, one by one in turn."""
-    for pair in zip_longest(*streams):
-        for socket, byte in enumerate(pair):
-            if byte is not None:
-                script.send(socket, (byte,))
-
-
 def add_mixed(script):
     """Dumps and controllers on two sockets at once."""
     kind = script.kind
@@ -252,7 +248,7 @@ def add_mixed(script):
 
 def add_apart(script):
     """A status byte on one socket while the other holds a data byte."""
-    for socket, other in ((0, 1), (1, 0)):
+    for socket, other in PAIRS:
         for status in (0x80, *range(0xF0, 0xF9)):
             script.send_hex(other, 'B0 0D')
             script.send(socket, (status,))
@@ -286,9 +282,11 @@ def add_panel(script):
     script.feed(0, given[:80])
     script.send_hex(1, 'B0 13 02 37')
     # byte 46 changes under a waiting controller
+    script.turn_to(TWO)
     script.whole(edit_with(kind, {46: 1}))
     script.whole(request(kind, EDIT))
     script.send_hex(1, '7F 37 7F 33 7F')
+    script.turn_to(ONE)
     script.whole(identity(0x7F))
     script.whole(dump(kind, PROGRAM, wave(12, kind.halves), 3))
     script.whole(PAD)
@@ -301,7 +299,7 @@ def add_lengths(script, socket):
     """Dumps of each length, and marks: less than the panel's."""
     hand = partial(script.feed, socket)
     add_in_turn(script.kind, hand, asking(script.kind)[:-1])
-    add_one_clear(script, hand, PLACES[-2:])
+    add_one_clear(script, hand, PLACES[-3:])
 
 
 def add_every_change(script, socket):
@@ -312,7 +310,7 @@ def add_every_change(script, socket):
 
 def add_all(script):
     """All parts, on a box of the script's kind."""
-    for socket in (0, 1):
+    for socket in PLAYERS:
         add_running(script, socket)
         add_real_time(script, socket)
         add_cuts(script, socket, range(0x80, 0xF8))
@@ -332,7 +330,9 @@ def add_all(script):
     add_apart(script)
     add_pieces(script)
     add_panel(script)
+    script.turn_to(TWO)
     add_scenes(script)
+    add_duo(script)
     add_lengths(script, 1)
     add_noise(script)
 

@@ -1,13 +1,13 @@
 """Two sockets, panel and desk at once: what demand 3 says, held against runs.
 
 A plan has a kind of box, a stream of bytes for each socket, the panel's
-messages and the lighting desk's lists of moves. It is played five times, from
-the same memory and marks and under the same settings: mixed in an order of
-finishing, mixed otherwise in the same order, mixed in another order, and for
-each of the two orders one message at a time. Both receivers start fresh, no
-call is turned away for what it lends or is set to, every call lends its own
-socket's receiver and buffer, and the settings stay, the kind too: demand 3's
-premises.
+messages and the lighting desk's lists of moves, each with the player that it
+names. It is played five times, from the same memory and marks and under the
+same settings: mixed in an order of finishing, mixed otherwise in the same
+order, mixed in another order, and for each of the two orders one message at a
+time. Both receivers start fresh, no call is turned away for what it lends or
+is set to, every call lends its own socket's receiver and buffer, and the
+settings stay, the kind too: demand 3's premises.
 
 A call is named by its source and its place there: the place of a byte in
 its socket's stream, of a message among the panel's or of a list among the
@@ -34,16 +34,17 @@ buffer, and memory and marks at the end are the same, byte for byte.
 
 a run and one message at a time (`Run.effects`): "The programs, the edit
 buffer and the replies sent are exactly those of carrying out the finished
-messages whole, one at a time, in the order their last bytes arrived." A
-SysEx is handed over whole, a channel message is sent with nothing between
-its bytes, a program change too. A list's moves are "sent one by one on our
-channel"; one above 127, which no wire carries, is a list for itself. What a
-socket finishes is found by box.py from that socket's bytes alone. Each
-finishing call has the same number, reply length and reply and leaves the same
-memory and marks (Req 06: "Demands 2 and 3 read both lengths and the marks"),
-a list what its last move leaves. "Unfinished and cut messages have no
-effect": they are left out there, and so are an empty list and one of too
-many moves, which is refused with 33.
+messages whole, one at a time, in the order their last bytes arrived." Req 08:
+"Demand 3 is read with the sender's buffer in each message." A SysEx is handed
+over whole, naming its sender, a channel message is sent on its sender's
+socket with nothing between its bytes, a program change too. A list's moves
+are "sent one by one on our channel"; one above 127, which no wire carries, is
+a list for itself. What a socket finishes is found by box.py from that
+socket's bytes alone. Each finishing call has the same number, reply length
+and reply and leaves the same memory and marks (Req 06: "Demands 2 and 3 read
+both lengths and the marks"), a list what its last move leaves. "Unfinished
+and cut messages have no effect": they are left out there, and so are an empty
+list and one of too many moves, which is refused with 33.
 """
 
 from typing import NamedTuple, Union
@@ -52,12 +53,12 @@ from box import CONTROLLER, CUT, END_BYTE, TOO_LONG, Receiver
 from chance import (REAL_TIME, asking, fragment, over_list, some_list,
                     storing, storing_all)
 from controllers import APPLIED, NOT_SELECTED, TOP
-from kinds import MARK_COUNT, START
+from kinds import MARK_COUNT, PLAYERS, START
 from messages import PAD, edit_with, in_each_length
 from moves import MOST, TOO_MANY, in_pairs
 from script import Script
 
-SOCKETS, PANEL, DESK = (0, 1), 2, 3
+SOCKETS, PANEL, DESK = PLAYERS, 2, 3
 # Numbers of calls that finish nothing: an empty list has none, and one that
 # is refused has that of its refusal.
 NOTHING = (CUT, (), (TOO_MANY,))
@@ -117,26 +118,51 @@ def finished_moves(moves):
     return pairs if len(pairs) <= MOST else []
 
 
-class Plan:
-    """What sockets, panel and desk send; the kind and the settings."""
+class Opening:
+    """Kind, settings, memory and marks, with which runs begin."""
 
     def __init__(self, kind, chance):
         self.kind = kind
         self.settings = chance.choice(((0, 0), (0, 1), (5, 0)))
-        edit = edit_with(kind, {46: chance.randrange(16)})
-        self.memory = (storing_all(kind, chance),
-                       chance.choice(in_each_length(kind, edit)))
+        self.programs = storing_all(kind, chance)
+        self.edits = [chance.choice(in_each_length(kind, edit_with(
+            kind, {46: chance.randrange(16)}, player))) for player in PLAYERS]
         self.marks = {chance.randrange(MARK_COUNT): chance.randrange(2)
                       for _ in range(chance.randrange(9))}
+
+    def begin(self):
+        """Return a script that sets all, and names for its calls."""
+        script = Script(self.kind)
+        script.whole(self.programs)
+        for player, message in zip(PLAYERS, self.edits):
+            script.name(player)
+            script.whole(message)
+        for place, mark in self.marks.items():
+            script.mark(place, mark)
+        script.settings(*self.settings)
+        return script, [None] * (1 + len(self.edits))
+
+
+class Plan(Opening):
+    """What sockets, panel and desk send, and how runs begin."""
+
+    def __init__(self, kind, chance):
+        super().__init__(kind, chance)
         panel = [chance.choice((asking, storing))(kind, chance)
                  for _ in range(chance.randrange(8))]
         desk = make_desk(kind, chance)
         streams = [make_stream(kind, chance, chance.randrange(300, 3000))
                    for _ in SOCKETS]
         self.sources = (*streams, panel, desk)
+        self.named = {source: chance.choices(PLAYERS, k=len(calls))
+                      for source, calls in ((PANEL, panel), (DESK, desk))}
         self.finished = (*(finished(kind, stream) for stream in streams),
                          dict(enumerate(panel)),
                          dict(enumerate(map(finished_moves, desk))))
+
+    def sender(self, source, place):
+        """Return whose call it is: its socket's, or the player it names."""
+        return source if source in SOCKETS else self.named[source][place]
 
     def order(self, chance):
         """Return an order of finishing: a source for each message or list."""
@@ -170,56 +196,48 @@ class Plan:
         places = [iter(messages) for messages in self.finished]
         return [(source, next(places[source])) for source in order]
 
-    def begin(self):
-        """Return a script that sets all and fills memory and marks."""
-        script = Script(self.kind)
-        for message in self.memory:
-            script.whole(message)
-        for place, mark in self.marks.items():
-            script.mark(place, mark)
-        script.settings(*self.settings)
-        return script
-
     def mixed_script(self, calls):
         """Return the script of mixed calls, and what its calls are."""
-        script = self.begin()
+        script, named = self.begin()
         for source, place in calls:
-            if source == PANEL:
-                script.whole(self.sources[PANEL][place])
-            elif source == DESK:
-                script.moves(self.sources[DESK][place])
-            else:
+            if source in SOCKETS:
                 script.send(source, self.sources[source][place:place + 1])
-        return bytes(script.commands), [None] * len(self.memory) + calls
+                continue
+            script.name(self.sender(source, place))
+            hand = script.whole if source == PANEL else script.moves
+            hand(self.sources[source][place])
+        return bytes(script.commands), named + calls
 
     def single_script(self, calls):
         """Return the script of one message at a time, and its calls."""
-        script, named = self.begin(), [None] * len(self.memory)
+        script, named = self.begin()
         for source, place in calls:
-            for count in self.add_singly(script, source,
+            player = self.sender(source, place)
+            script.name(player)
+            for count in self.add_singly(script, source, player,
                                          self.finished[source][place]):
                 named += [None] * (count - 1) + [(source, place)]
         return bytes(script.commands), named
 
-    def add_singly(self, script, source, message):
+    def add_singly(self, script, source, player, message):
         """Carry out a message, or a list's moves; yield each one's calls."""
         if source == DESK:
             for move in message:
-                yield self.add_move(script, bytes(move))
+                yield self.add_move(script, player, bytes(move))
         elif source == PANEL or message[0] == START:
             script.whole(message)
             yield 1
         else:
-            script.send(0, message)
+            script.send(player, message)
             yield len(message)
 
-    def add_move(self, script, move):
+    def add_move(self, script, player, move):
         """Carry out a list's move; return how many calls that takes."""
         if max(move) > TOP:
             script.moves(move)
             return 1
         channel, _ = self.settings
-        script.send(0, (CONTROLLER << 4 | channel, *move))
+        script.send(player, (CONTROLLER << 4 | channel, *move))
         return 1 + len(move)
 
 

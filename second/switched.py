@@ -1,7 +1,8 @@
 """Parts of scripts: the kind that calls bring, changed between them.
 
 A call is judged by the kind that it brings itself, whatever the ones before
-it brought; a number that is no kind's is 32, "just before 30".
+it brought; a number that is no kind's is 32, "just before 30", as one that is
+no player's is 31, just after it.
 """
 
 from itertools import chain, cycle
@@ -15,19 +16,28 @@ from player import ROOMS
 # Numbers that are no kind's; some would be one's if they were cut.
 NO_KINDS = (3, 0xFF, 0x100, 0x101, 0x102, 0xFFFF, 1 << 24, (1 << 24) + 1,
             (1 << 24) + 2, 0x80000000, 0xFF000001, 0xFF000002, 0xFF00FFFF)
+# Numbers that are no player's; some would be one's if they were cut.
+NO_PLAYERS = (2, 0xFF, 0x100, 0x101, 0xFFFF, 1 << 24, (1 << 24) + 1,
+              0x80000000, 0xFF00FFFF)
 
 
-def spoil(script, no_kind, short):
-    """Bring no kind's number if so; lend a buffer, or None, a byte short."""
+def spoil(script, no_kind, short, no_player=False):
+    """Bring no kind's number, name no player's, if so.
+
+    Also lend a buffer, or None, a byte short.
+    """
     if no_kind:
         script.bring(NO_KINDS[0])
+    if no_player:
+        script.name(NO_PLAYERS[0])
     if short is not None:
         script.lend(short, script.kind.least[short] - 1)
 
 
 def mend(script, short):
-    """Bring and lend again what the box wants."""
+    """Bring, name and lend again what the box wants."""
     script.bring_back()
+    script.name_back()
     if short is not None:
         script.lend_back(short)
 
@@ -41,6 +51,7 @@ def add_calls(script):
     script.back(13, 0)
     script.scale(5, 128)
     script.amp(15, 256)
+    script.screen(35, 0, 1)
 
 
 def add_no_kinds(script, numbers):
@@ -78,7 +89,7 @@ def add_switched_bytes(script, turns):
 
 
 def add_switched_moves(script):
-    """A list handed to each kind in turn: each has its own edit buffer."""
+    """A list handed to each kind in turn: each has its own edit buffers."""
     for text in ('0D 7F 0C 10 13 02 37 7F 40 7F', '13 01 37 7F 33 7F 01 7F',
                  '09 7F 0C 1C 0C 1F 0C 20 09 02'):
         for kind in KINDS:

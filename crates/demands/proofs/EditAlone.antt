@@ -11,10 +11,11 @@ use Rattle.ground.proofs.InOrder.{tested-cases}
 use Rattle.kinds.specs.declared.Kind.{Kind}
 use Rattle.kinds.specs.Kinds.{sizeOf}
 use Rattle.programs.specs.declared.Player.{Player}
+use Rattle.programs.specs.declared.Player.the-variants as players
 use Rattle.programs.specs.Memory.{memorySize, programPlace, editPlace}
 use Rattle.programs.specs.Held.{Held, Edit, bytesIn, putIn}
-use Rattle.programs.proofs.Parts.{part-put, part-before, put-before, put-behind, put-length, edit-length}
-use Rattle.programs.proofs.Players.{edit-inside}
+use Rattle.programs.proofs.Parts.{other-part, part-put, part-before, put-before, put-behind, put-length, edit-length}
+use Rattle.programs.proofs.Players.{edit-inside, edit-apart}
 use Rattle.controls.specs.Table.{rowOf}
 use Rattle.controls.specs.Applying.{Changed, storeRow}
 use Rattle.controls.proofs.Controllers.{apply-cases, store-length}
@@ -27,11 +28,12 @@ use Rattle.podbox.specs.Messages.{isController, channelTests, changeAnswer, con
 use Rattle.demands.specs.EditAlone.{EditAlone, Moved}
 
 pub alone-same : (kind : Kind) (player : Player) (held : Held) → EditAlone kind player held held
-alone-same kind player held = record { programs-stay = λ _ _. refl; else-stays = λ _ _. refl; length-stays = refl; marks-stay = refl }
+alone-same kind player held = record { programs-stay = λ _ _. refl; other-stays = λ _ _. refl; else-stays = λ _ _. refl; length-stays = refl; marks-stay = refl }
 
 pub alone-more : (kind : Kind) (player : Player) (a b c : Held) → EditAlone kind player a b → EditAlone kind player b c → EditAlone kind player a c
 alone-more kind player a b c e f = record {
   programs-stay = λ p h. f .programs-stay p h ∙ e .programs-stay p h;
+  other-stays = λ other h. f .other-stays other h ∙ e .other-stays other h;
   else-stays = λ k h. f .else-stays k h ∙ e .else-stays k h;
   length-stays = f .length-stays ∙ e .length-stays;
   marks-stay = f .marks-stay ∙ e .marks-stay;
@@ -51,6 +53,7 @@ module _ (kind : Kind) (player : Player) (held : Held) (m : memorySize kind ≤ 
           programs-stay = λ p h.
               let inside = program-inside size p h in
               part-before (programPlace kind p) size place (held .memory) (omega arith) (omega arith) size bytes;
+          other-stays = λ other differ. other-part (editPlace kind) size bytes (held .memory) (edit-apart kind .1) (omega (arith, edit-inside kind players.Two .1)) e player other differ;
           else-stays = λ k. ⊎-elim (put-before place size bytes (held .memory) (omega arith) e k) (put-behind place size bytes (held .memory) (omega arith) e k);
           length-stays = put-length place size bytes (held .memory) (omega arith) e;
           marks-stay = refl;

@@ -3,6 +3,8 @@ pub mod Accepts
 pub mod Forms
 pub mod Tells
 pub mod Carried
+pub mod Named
+pub mod Acts
 pub mod Marks
 pub mod Exactly
 pub mod ComesBack
@@ -18,6 +20,7 @@ pub mod AmpModel
 pub mod Reasons
 pub mod Sockets
 pub mod ManyMoves
+pub mod Duo
 pub mod Fed
 pub mod ToldApart
 pub mod AsTheBox

@@ -17,9 +17,10 @@ use Rattle.sysex.specs.declared.Answer.the-variants.{Stored}
 use Rattle.carrying.specs.Carrying.{Outcome}
 use Rattle.podbox.specs.Messages.{isHeard}
 
--- every program stays, and so does every byte of memory outside the player's edit buffer, the other player's too, and every mark: "A controller leaves the mark as it was."
+-- every program stays, and so do the other player's edit buffer, every byte of memory outside the player's own, and every mark: "A controller leaves the mark as it was."
 pub record EditAlone (kind : Kind) (player : Player) (held after : Held) : Type 0 where
   pub programs-stay : (p : ℕ) → p ≤ lastProgram → bytesIn kind player (One p) after ≡ bytesIn kind player (One p) held
+  pub other-stays : (other : Player) → (player ≡ other → ⊥) → bytesIn kind other Edit after ≡ bytesIn kind other Edit held
   pub else-stays : (k : ℕ) → (k < editPlace kind player) ⊎ (editPlace kind player + sizeOf kind ≤ k) → getD (after .memory) k 0 ≡ getD (held .memory) k 0
   pub length-stays : length (after .memory) ≡ length (held .memory)
   pub marks-stay : after .marks ≡ held .marks

@@ -7,4 +7,5 @@ pub mod Moves
 pub mod Reasons
 pub mod Byte48
 pub mod EitherUnit
+pub mod Duo
 pub mod Told

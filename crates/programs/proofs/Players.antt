@@ -16,3 +16,8 @@ pub edit-inside : (kind : Kind) (player : Player) → (allSize kind ≤ editPlac
 unfolding editSlot
 edit-inside kind One = (omega arith, omega arith)
 edit-inside kind Two = (omega arith, omega arith)
+
+-- player one's comes before player two's
+pub edit-apart : (kind : Kind) → (editSlot One + 1 ≤ editSlot Two) × (editPlace kind One + sizeOf kind ≤ editPlace kind Two)
+unfolding editSlot
+edit-apart kind = (omega arith, omega arith)

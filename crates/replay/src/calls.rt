@@ -1,4 +1,4 @@
-// The calls of the box, of the controllers and of the amp models, and the line of each answer.
+// The calls of the box, of the controllers, of the amp models and of the screen, and the line of each answer.
 use crate::buffers;
 use crate::buffers::Buffer;
 use crate::buffers::Marks;
@@ -19,11 +19,12 @@ pub(crate) fn whole(
     receive1: &[u8],
     reply: &mut [u8],
 ) -> Desk {
-    let memory_end = io::count(desk.lent.memory as isize, memory);
-    let marks_end = io::count(desk.lent.marks as isize, marks);
-    let reply_end = io::count(desk.lent.reply as isize, reply);
+    let memory_end = buffers::within(desk.lent.memory, memory);
+    let marks_end = buffers::within(desk.lent.marks, marks);
+    let reply_end = buffers::within(desk.lent.reply, reply);
     let answer = podbox::whole_message(
         message,
+        desk.player,
         desk.kind,
         desk.settings,
         &mut memory[..memory_end],
@@ -137,10 +138,10 @@ fn take(
     receive: &mut [u8],
     reply: &mut [u8],
 ) -> Took {
-    let memory_end = io::count(desk.lent.memory as isize, memory);
-    let marks_end = io::count(desk.lent.marks as isize, marks);
-    let receive_end = io::count(lent as isize, receive);
-    let reply_end = io::count(desk.lent.reply as isize, reply);
+    let memory_end = buffers::within(desk.lent.memory, memory);
+    let marks_end = buffers::within(desk.lent.marks, marks);
+    let receive_end = buffers::within(lent, receive);
+    let reply_end = buffers::within(desk.lent.reply, reply);
     podbox::take_byte(
         desk::receiver_of(desk, socket),
         socket,
@@ -175,9 +176,16 @@ pub(crate) fn moves(
 
 // What a list of so many moves is answered, by what is lent of memory and, for the numbers, of the reply buffer.
 fn list_answer(desk: Desk, count: usize, memory: &[u8], reply: &[u8]) -> Answer {
-    let memory_end = io::count(desk.lent.memory as isize, memory);
-    let reply_end = io::count(desk.lent.reply as isize, reply);
-    podbox::list_answer(count, desk.kind, desk.settings, memory_end, reply_end)
+    let memory_end = buffers::within(desk.lent.memory, memory);
+    let reply_end = buffers::within(desk.lent.reply, reply);
+    podbox::list_answer(
+        count,
+        desk.player,
+        desk.kind,
+        desk.settings,
+        memory_end,
+        reply_end,
+    )
 }
 
 // Move after move, the number of each at its place. The test is for the proof alone: a longer list is refused.
@@ -191,10 +199,10 @@ fn make_moves(desk: Desk, message: &[u8], memory: &mut Memory, numbers: &mut Buf
 
 // The number of one move, made in what is lent of memory.
 fn moved(desk: Desk, controller: u8, value: u8, memory: &mut [u8]) -> u8 {
-    let end = io::count(desk.lent.memory as isize, memory);
+    let end = buffers::within(desk.lent.memory, memory);
     let answer = podbox::make_move(
         Move { controller, value },
-        podbox::PANEL,
+        programs::player_of(desk.player),
         kinds::kind_of(desk.kind),
         &mut memory[..end],
     );
@@ -219,11 +227,29 @@ pub(crate) fn amp(desk: Desk, model: u32) -> Desk {
 
 // The controller shown back from what is lent of memory.
 pub(crate) fn show_back(desk: Desk, memory: &[u8]) -> Desk {
-    let end = io::count(desk.lent.memory as isize, memory);
+    let end = buffers::within(desk.lent.memory, memory);
     print::value(
         b'D',
         desk,
-        costerbloom::costerbloom_back(desk.controller, desk.kind, &memory[..end]),
+        costerbloom::costerbloom_back(desk.controller, desk.player, desk.kind, &memory[..end]),
     );
+    desk::counted(desk)
+}
+
+// What the screen is handed: the program of the controller's number, or the own buffer.
+pub(crate) fn show(desk: Desk, own: u32, memory: &[u8]) -> Desk {
+    let end = buffers::within(desk.lent.programs, memory);
+    let start = buffers::within(desk.lent.own, memory);
+    let mut number = 0;
+    let part = screen::screen(
+        &mut number,
+        desk.controller,
+        own,
+        desk.player,
+        desk.kind,
+        &memory[..end],
+        &memory[start..],
+    );
+    print::shown(desk, number, part);
     desk::counted(desk)
 }

@@ -12,6 +12,8 @@ pub(crate) struct Desk {
     pub(crate) length: u16,
     // The kind's number, of a kind or not.
     pub(crate) kind: u32,
+    // The player's number, of a player or not.
+    pub(crate) player: u32,
     pub(crate) settings: Settings,
     pub(crate) lent: Lent,
     pub(crate) receiver0: Receiver,
@@ -25,6 +27,7 @@ pub(crate) fn fresh() -> Desk {
     Desk {
         length: 0,
         kind: kinds::POD,
+        player: 0,
         settings: podbox::FRESH_SETTINGS,
         lent: buffers::NEEDED,
         receiver0: framing::fresh(),
@@ -41,6 +44,7 @@ pub(crate) fn changed(before: Desk, command: Command) -> Desk {
     match op {
         b'L' => desk.length = script::number(command),
         b'T' => desk.kind = script::wide(command),
+        b'O' => desk.player = script::wide(command),
         b'C' => {
             desk.settings.channel = command.a;
             desk.settings.omni = command.b;

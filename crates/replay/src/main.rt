@@ -99,7 +99,7 @@ fn called(
     receive1: &mut Buffer,
     reply: &mut Buffer,
 ) -> Desk {
-    let end = io::count(desk.length as isize, message);
+    let end = buffers::within(desk.length, message);
     let all = &message[..end];
     let one = [command.v];
     let socket = script::socket(command);
@@ -112,6 +112,7 @@ fn called(
         b'K' => calls::scale(desk, script::wide(command)),
         b'D' => calls::show_back(desk, memory),
         b'G' => calls::amp(desk, script::wide(command)),
+        b'X' => calls::show(desk, script::wide(command), memory),
         _ => desk,
     }
 }

@@ -67,6 +67,20 @@ pub(crate) fn value(letter: u8, desk: Desk, value: u32) {
     io::write_all(STDOUT_FILENO, b"\n");
 }
 
+// The line of what the screen is handed, and a second with its bytes where it is not refused. The remainder is for the
+// proof alone: no part is that long.
+pub(crate) fn shown(desk: Desk, number: u8, part: &[u8]) {
+    io::write_all(STDOUT_FILENO, b"X");
+    field(desk.calls);
+    field(number as u64);
+    field(part.len() as u64);
+    field(digest(part));
+    io::write_all(STDOUT_FILENO, b"\n");
+    if number == 0 {
+        hex(b'x', part, (part.len() % 65536) as u16);
+    }
+}
+
 // The lines at the end of the script.
 pub(crate) fn end(desk: Desk, memory: &Memory, marks: &Marks) {
     hex(b'm', memory, buffers::MEMORY as u16);

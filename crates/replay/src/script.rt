@@ -37,7 +37,8 @@ pub(crate) fn socket(command: Command) -> u32 {
     command.a as u32 + 0x100_0000 * command.b as u32
 }
 
-// The value for a controller, an amp model, and a kind's number: n, and v as its highest byte.
+// The value for a controller, an amp model, the number of a kind or of a player, and whether the screen is asked for the
+// own buffer: n, and v as its highest byte.
 pub(crate) fn wide(command: Command) -> u32 {
     number(command) as u32 + 0x100_0000 * command.v as u32
 }

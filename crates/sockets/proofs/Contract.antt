@@ -50,15 +50,23 @@ module _ (rules : Rules) (law : Lawful rules) where
     pub answer : done .answer ≡ o .answer
     pub sent : take (rules .count (done .answer)) (done .reply) ≡ o .sent
 
+  -- its tests hold, and the byte is taken
+  pub byte-passed : (socket b : ℕ) (entry : LentOf rules) (done : TookOf rules) → done ≡ byteOf rules socket b entry
+      → turnedAway (rules .number (done .answer)) ≡ false
+      → AllHold (rules .tests socket entry) × (byteOf rules socket b entry ≡ stepDoes rules (socketOf socket) b entry (stepOf (rules .limit) (entry .receiver) b))
+  unfolding byteOf
+  byte-passed socket b entry done c e =
+      taken rules (λ (d : TookOf rules). d .answer) (rules .tests socket entry)
+      (λ number. took (entry .receiver) (rules .plain number) (entry .held) (entry .receive) (entry .reply))
+      (stepDoes rules (socketOf socket) b entry (stepOf (rules .limit) (entry .receiver) b)) (λ n. refl) (law .away socket entry) (rw c at e)
+
   pub byte-took : (socket b : ℕ) (entry : LentOf rules) (done : TookOf rules) → done ≡ byteOf rules socket b entry
       → turnedAway (rules .number (done .answer)) ≡ false
       → TookByte b entry done (happeningDoes rules (entry .held) (socketOf socket) (happeningOf (stepOf (rules .limit) (entry .receiver) b .event) (entry .receive)))
-  unfolding byteOf stepDoes
+  unfolding stepDoes
   byte-took socket b entry done c e =
       let st = stepOf (rules .limit) (entry .receiver) b in
-      let t = taken rules (λ (d : TookOf rules). d .answer) (rules .tests socket entry)
-      (λ number. took (entry .receiver) (rules .plain number) (entry .held) (entry .receive) (entry .reply))
-      (stepDoes rules (socketOf socket) b entry st) (λ n. refl) (law .away socket entry) (rw c at e) in
+      let t = byte-passed socket b entry done c e in
       let g = law .enough socket entry (t .0) in
       rw (c ∙ t .1)
       (record {
@@ -78,11 +86,17 @@ module _ (rules : Rules) (law : Lawful rules) where
     pub answer : done .answer ≡ o .answer
     pub sent : take (rules .extent x (done .answer)) (done .reply) ≡ o .sent
 
+  pub direct-passed : (x : rules .Given) (held : rules .Held) (out : List ℕ) (done : LeftOf rules) → done ≡ directOf rules x held out
+      → turnedAway (rules .number (done .answer)) ≡ false
+      → AllHold (rules .testsDirect x held out) × (directOf rules x held out ≡ leaves (directDoes rules held x) out)
+  unfolding directOf
+  direct-passed x held out done c e =
+      taken rules (λ (l : LeftOf rules). l .answer) (rules .testsDirect x held out) (λ number. left (rules .plain number) held out)
+      (leaves (directDoes rules held x) out) (λ n. refl) (law .awayDirect x held out) (rw c at e)
+
   pub direct-took : (x : rules .Given) (held : rules .Held) (out : List ℕ) (done : LeftOf rules) → done ≡ directOf rules x held out
       → turnedAway (rules .number (done .answer)) ≡ false → TookDirect x held done (directDoes rules held x)
-  unfolding directOf
   direct-took x held out done c e =
-      let t = taken rules (λ (l : LeftOf rules). l .answer) (rules .testsDirect x held out) (λ number. left (rules .plain number) held out)
-      (leaves (directDoes rules held x) out) (λ n. refl) (law .awayDirect x held out) (rw c at e) in
+      let t = direct-passed x held out done c e in
       let g = law .enoughDirect x held out (t .0) in
       rw (c ∙ t .1) (record { good = g; after = refl; answer = refl; sent = rw (law .toldDirect held x g) (take-append-seam _ _) })

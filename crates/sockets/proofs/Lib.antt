@@ -7,6 +7,7 @@ pub mod Whole
 pub mod Fed
 pub mod Live
 pub mod Calm
+pub mod TwoPlayers
 pub mod Unnoticed
 pub mod Cases
 pub mod OneResult

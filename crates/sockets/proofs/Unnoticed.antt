@@ -6,11 +6,10 @@ use Rattle.ground.proofs.Tests.{by}
 use Rattle.sockets.specs.Framer.{Message, Happening, Nothing, Cut, Finished, Framer, Idle, hears}
 use Rattle.sockets.specs.Calls.{Socket, S0, S1, Call, Byte, Direct, Finish, FromSocket, FromDirect, stands, bytesOf, handing, happens, finishes}
 use Rattle.sockets.specs.Box.{Rules, CallsOf, FinishesOf, SaidsOf, saidOf, finishedBy, heldAfter, saidsOf, happeningDoes, directDoes, Lawful}
-use Rattle.sockets.specs.Promise.{socketNumber}
-use Rattle.sockets.specs.History.{WorldOf, lends, History, nothing, byte, direct, does, saidsAlong}
-use Rattle.sockets.specs.Players.{Players, isOf, AllOf, TwoPlayers, Seen, Sent, Called, Stored, SeensOf, storedBy, seenAfter, ownSaids, Unnoticed}
+use Rattle.sockets.specs.History.{WorldOf, does, saidsAlong}
+use Rattle.sockets.specs.Players.{Players, Seen, Sent, Called, Stored, SeensOf, storedBy, seenAfter, ownSaids, Isolated}
+use Rattle.sockets.proofs.TwoPlayers.{isOf, AllOf, TwoPlayers}
 use Rattle.sockets.proofs.Alone.{stands-byte, stands-direct}
-use Rattle.sockets.proofs.Contract.{byte-took, direct-took}
 use Rattle.sockets.proofs.Carried.{held-append, held-one}
 use Rattle.sockets.proofs.Whole.{demand3}
 
@@ -19,13 +18,6 @@ other S0 = S1
 other S1 = S0
 
 module _ (rules : Rules) (players : Players rules) (p : Socket) where
-  -- two boxes that are alike to player p
-  record Like (a b : rules .Held) : Type 0 where
-    pub good : rules .Good a
-    pub good′ : rules .Good b
-    pub shared : players .shared a ≡ players .shared b
-    pub own : players .own p a ≡ players .own p b
-
   -- the run of what is seen alone: where player p's socket stands, what the box holds and what is said to player p
   abbrev nextOne : Framer → Seen (rules .Given) → Framer
   nextOne f (Sent b) = hears (rules .limit) f b .next
@@ -50,88 +42,95 @@ module _ (rules : Rules) (players : Players rules) (p : Socket) where
   says f held [] = []
   says f held (e ∷ es) = saysOne f held e (says (nextOne f e) (heldOne f held e) es)
 
-  module _ (law : Lawful rules) (two : TwoPlayers rules players) where
-    -- one message, player p's own or the other's
-    module _ (f : Finish (rules .Delivered)) (a b : rules .Held) where
-      own-message : isOf rules players p f ≡ true → Like a b
-          → Like (rules .carry a f .held) (rules .carry b f .held) × (saidOf (rules .carry a f) ≡ saidOf (rules .carry b f))
-      own-message o l =
-          let k = two .own-by p f a b (l .good) (l .good′) o (l .shared) (l .own) in (
-            record {
-              good = law .kept a f (l .good);
-              good′ = law .kept b f (l .good′);
-              shared = two .shared-by f a b (l .good) (l .good′) (l .shared);
-              own = k .0;
-            },
-            k .1,
-          )
+module _ (rules : Rules) (players : Players rules) (two : TwoPlayers rules players) (p : Socket) where
+  -- two boxes that are alike to player p
+  record Like (a b : rules .Held) : Type 0 where
+    pub firm : two .Firm a
+    pub firm′ : two .Firm b
+    pub shared : players .shared a ≡ players .shared b
+    pub own : players .own p a ≡ players .own p b
 
-      other-message : isOf rules players p f ≡ false → Like a b → Like (rules .carry a f .held) (rules .carry b f .held)
-      other-message o l =
+  -- one message, player p's own or the other's
+  module _ (f : Finish (rules .Delivered)) (a b : rules .Held) where
+    own-message : isOf rules (two .sends) p f ≡ true → Like a b
+        → Like (rules .carry a f .held) (rules .carry b f .held) × (saidOf (rules .carry a f) ≡ saidOf (rules .carry b f))
+    own-message o l =
+        let k = two .own-by p f a b (l .firm) (l .firm′) o (l .shared) (l .own) in (
           record {
-            good = law .kept a f (l .good);
-            good′ = law .kept b f (l .good′);
-            shared = two .shared-by f a b (l .good) (l .good′) (l .shared);
-            own = two .own-kept p f a (l .good) o ∙ l .own ∙ sym (two .own-kept p f b (l .good′) o);
-          }
+            firm = two .firm-kept f a (l .firm);
+            firm′ = two .firm-kept f b (l .firm′);
+            shared = two .shared-by f a b (l .firm) (l .firm′) (l .shared);
+            own = k .0;
+          },
+          k .1,
+        )
 
-      any-message : (t : Bool) → isOf rules players p f ≡ t → Like a b → Like (rules .carry a f .held) (rules .carry b f .held)
-      any-message true o l = own-message o l .0
-      any-message false o l = other-message o l
+    other-message : isOf rules (two .sends) p f ≡ false → Like a b → Like (rules .carry a f .held) (rules .carry b f .held)
+    other-message o l =
+        record {
+          firm = two .firm-kept f a (l .firm);
+          firm′ = two .firm-kept f b (l .firm′);
+          shared = two .shared-by f a b (l .firm) (l .firm′) (l .shared);
+          own = two .own-kept p f a (l .firm) o ∙ l .own ∙ sym (two .own-kept p f b (l .firm′) o);
+        }
 
-    -- the messages of a direct call
-    handed-like : (xs : List (rules .Delivered)) (a b : rules .Held) → Like a b
-        → Like (heldAfter rules a (handing xs)) (heldAfter rules b (handing xs))
-    handed-like [] a b l = l
-    handed-like (x ∷ xs) a b l = handed-like xs _ _ (any-message (FromDirect x) a b (players .sends p x) refl l)
+    any-message : (t : Bool) → isOf rules (two .sends) p f ≡ t → Like a b → Like (rules .carry a f .held) (rules .carry b f .held)
+    any-message true o l = own-message o l .0
+    any-message false o l = other-message o l
 
-    handed-saids : (fs : FinishesOf rules) (a b : rules .Held) → AllOf rules players p fs → Like a b → saidsOf rules a fs ≡ saidsOf rules b fs
-    handed-saids [] a b o l = refl
-    handed-saids (f ∷ fs) a b o l =
-        let k = own-message f a b (o .0) l in
-        rw (k .1, handed-saids fs _ _ (o .1) (k .0))
+  -- the messages of a direct call
+  handed-like : (xs : List (rules .Delivered)) (a b : rules .Held) → Like a b
+      → Like (heldAfter rules a (handing xs)) (heldAfter rules b (handing xs))
+  handed-like [] a b l = l
+  handed-like (x ∷ xs) a b l = handed-like xs _ _ (any-message (FromDirect x) a b (two .sends p x) refl l)
 
-    direct-said : (x : rules .Given) (a b : rules .Held) (r s : SaidsOf rules) (t : Bool) → players .calls p x ≡ t → Like a b → r ≡ s
-        → cond t (saidOf (directDoes rules a x) ∷ r) r ≡ cond t (saidOf (directDoes rules b x) ∷ s) s
-    direct-said x a b r s true c l e =
-        let k = handed-saids (handing (rules .hands x)) a b (two .calls-own p x c) l in
-        (λ i. rules .report x (k i) ∷ e i)
-    direct-said x a b r s false c l e = e
+  handed-saids : (fs : FinishesOf rules) (a b : rules .Held) → AllOf rules (two .sends) p fs → Like a b → saidsOf rules a fs ≡ saidsOf rules b fs
+  handed-saids [] a b o l = refl
+  handed-saids (f ∷ fs) a b o l =
+      let k = own-message f a b (o .0) l in
+      rw (k .1, handed-saids fs _ _ (o .1) (k .0))
 
-    -- a byte of player p's
-    own-byte : ((m : Message) → isOf rules players p (FromSocket p m) ≡ true) → (h : Happening) (a b : rules .Held) → Like a b
-        → Like (happeningDoes rules a p h .held) (happeningDoes rules b p h .held)
-        × (saidOf (happeningDoes rules a p h) ≡ saidOf (happeningDoes rules b p h))
-    own-byte o Nothing a b l = (l, refl)
-    own-byte o Cut a b l = (l, refl)
-    own-byte o (Finished m) a b l = own-message (FromSocket p m) a b (o m) l
+  direct-said : (x : rules .Given) (a b : rules .Held) (r s : SaidsOf rules) (t : Bool) → players .calls p x ≡ t → Like a b → r ≡ s
+      → cond t (saidOf (directDoes rules a x) ∷ r) r ≡ cond t (saidOf (directDoes rules b x) ∷ s) s
+  direct-said x a b r s true c l e =
+      let k = handed-saids (handing (rules .hands x)) a b (two .calls-own p x c) l in
+      (λ i. rules .report x (k i) ∷ e i)
+  direct-said x a b r s false c l e = e
 
-    -- a byte of the other player's: the other run does what is seen of it, and the rest goes on from there
-    other-byte : ((m : Message) → isOf rules players p (FromSocket (other p) m) ≡ false)
-        → (h : Happening) (f : Framer) (es : SeensOf rules) (saids : SaidsOf rules) (left a b : rules .Held) → Like a b
-        → ((c : rules .Held) → Like (happeningDoes rules a (other p) h .held) c → (saids ≡ says f c es) × Like left (leaves f c es))
-        → (saids ≡ says f b (storedBy rules players p h ++ es)) × Like left (leaves f b (storedBy rules players p h ++ es))
-    other-byte o Nothing f es saids left a b l k = k b l
-    other-byte o Cut f es saids left a b l k = k b l
-    other-byte o (Finished m) f es saids left a b l k =
-        by (λ (seen : SeensOf rules). (saids ≡ says f b (seen ++ es)) × Like left (leaves f b (seen ++ es))) (players .stores m) _ _
-        (λ e. k _ (other-message (FromSocket (other p) m) a b (o m) l))
-        (λ e. k b
-        (record {
-          good = law .kept a (FromSocket (other p) m) (l .good);
-          good′ = l .good′;
-          shared = two .shared-kept (other p) m a (l .good) e ∙ l .shared;
-          own = two .own-kept p (FromSocket (other p) m) a (l .good) (o m) ∙ l .own;
-        }))
+  -- a byte of player p's
+  own-byte : ((m : Message) → isOf rules (two .sends) p (FromSocket p m) ≡ true) → (h : Happening) (a b : rules .Held) → Like a b
+      → Like (happeningDoes rules a p h .held) (happeningDoes rules b p h .held)
+      × (saidOf (happeningDoes rules a p h) ≡ saidOf (happeningDoes rules b p h))
+  own-byte o Nothing a b l = (l, refl)
+  own-byte o Cut a b l = (l, refl)
+  own-byte o (Finished m) a b l = own-message (FromSocket p m) a b (o m) l
 
-module _ (rules : Rules) (players : Players rules) (law : Lawful rules) (two : TwoPlayers rules players) (start : Socket → Framer) where
+  -- a byte of the other player's: the other run does what is seen of it, and the rest goes on from there
+  other-byte : ((m : Message) → isOf rules (two .sends) p (FromSocket (other p) m) ≡ false)
+      → (h : Happening) (f : Framer) (es : SeensOf rules) (saids : SaidsOf rules) (left a b : rules .Held) → Like a b
+      → ((c : rules .Held) → Like (happeningDoes rules a (other p) h .held) c → (saids ≡ says rules players p f c es) × Like left (leaves rules players p f c es))
+      → (saids ≡ says rules players p f b (storedBy rules players p h ++ es)) × Like left (leaves rules players p f b (storedBy rules players p h ++ es))
+  other-byte o Nothing f es saids left a b l k = k b l
+  other-byte o Cut f es saids left a b l k = k b l
+  other-byte o (Finished m) f es saids left a b l k =
+      by (λ (seen : SeensOf rules). (saids ≡ says rules players p f b (seen ++ es)) × Like left (leaves rules players p f b (seen ++ es))) (players .stores m) _ _
+      (λ e. k _ (other-message (FromSocket (other p) m) a b (o m) l))
+      (λ e. k b
+      (record {
+        firm = two .firm-kept (FromSocket (other p) m) a (l .firm);
+        firm′ = l .firm′;
+        shared = two .shared-kept (other p) m a (l .firm) e ∙ l .shared;
+        own = two .own-kept p (FromSocket (other p) m) a (l .firm) (o m) ∙ l .own;
+      }))
+
+module _ (rules : Rules) (players : Players rules) (two : TwoPlayers rules players) (start : Socket → Framer) where
   -- what calls come to for player p, from a, is what the run of what is seen alone does, from b
   abbrev Follows : (p : Socket) (before calls : CallsOf rules) (a b : rules .Held) → Type 0
   Follows p before calls a b =
       let f = stands (rules .limit) (start p) (bytesOf p before) in
       let es = seenAfter rules players p start before calls in
       (ownSaids rules players p calls (saidsAlong rules start a before calls) ≡ says rules players p f b es)
-      × Like rules players p (heldAfter rules a (finishedBy rules start before calls)) (leaves rules players p f b es)
+      × Like rules players two p (heldAfter rules a (finishedBy rules start before calls)) (leaves rules players p f b es)
 
   -- one call in front of others
   front : (c : Call (rules .Given)) (before calls : CallsOf rules) (a : rules .Held)
@@ -141,61 +140,41 @@ module _ (rules : Rules) (players : Players rules) (law : Lawful rules) (two : T
       held-append rules a (finishes (rules .limit) (rules .hands) start before c) (finishedBy rules start (before ++ (c ∷ [])) calls)
       ∙ rw (held-one rules start c before a)
 
-  follow : (p : Socket) (before calls : CallsOf rules) (a b : rules .Held) → Like rules players p a b → Follows p before calls a b
+  follow : (p : Socket) (before calls : CallsOf rules) (a b : rules .Held) → Like rules players two p a b → Follows p before calls a b
   follow p before [] a b l = (refl, l)
   follow S0 before (Byte S0 x ∷ calls) a b l =
-      let k = own-byte rules players S0 law two (λ m. refl) (happens (rules .limit) start before S0 x) a b l in
+      let k = own-byte rules players two S0 (λ m. refl) (happens (rules .limit) start before S0 x) a b l in
       let r = rw (stands-byte (rules .limit) (start S0) S0 S0 x before) at (follow S0 (before ++ (Byte S0 x ∷ [])) calls _ _ (k .0)) in
       (rw (k .1, r .0), rw (front (Byte S0 x) before calls a) (r .1))
   follow S1 before (Byte S1 x ∷ calls) a b l =
-      let k = own-byte rules players S1 law two (λ m. refl) (happens (rules .limit) start before S1 x) a b l in
+      let k = own-byte rules players two S1 (λ m. refl) (happens (rules .limit) start before S1 x) a b l in
       let r = rw (stands-byte (rules .limit) (start S1) S1 S1 x before) at (follow S1 (before ++ (Byte S1 x ∷ [])) calls _ _ (k .0)) in
       (rw (k .1, r .0), rw (front (Byte S1 x) before calls a) (r .1))
   follow S0 before (Byte S1 x ∷ calls) a b l =
       rw (front (Byte S1 x) before calls a)
-      (other-byte rules players S0 law two (λ m. refl) (happens (rules .limit) start before S1 x)
+      (other-byte rules players two S0 (λ m. refl) (happens (rules .limit) start before S1 x)
       (stands (rules .limit) (start S0) (bytesOf S0 before)) _ _ _ a b l
       (λ c l′. rw (stands-byte (rules .limit) (start S0) S0 S1 x before) at (follow S0 (before ++ (Byte S1 x ∷ [])) calls _ c l′)))
   follow S1 before (Byte S0 x ∷ calls) a b l =
       rw (front (Byte S0 x) before calls a)
-      (other-byte rules players S1 law two (λ m. refl) (happens (rules .limit) start before S0 x)
+      (other-byte rules players two S1 (λ m. refl) (happens (rules .limit) start before S0 x)
       (stands (rules .limit) (start S1) (bytesOf S1 before)) _ _ _ a b l
       (λ c l′. rw (stands-byte (rules .limit) (start S1) S1 S0 x before) at (follow S1 (before ++ (Byte S0 x ∷ [])) calls _ c l′)))
   follow p before (Direct x ∷ calls) a b l =
-      let k = handed-like rules players p law two (rules .hands x) a b l in
+      let k = handed-like rules players two p (rules .hands x) a b l in
       let r = rw (stands-direct (rules .limit) (start p) p x before) at (follow p (before ++ (Direct x ∷ [])) calls _ _ k) in
-      (direct-said rules players p law two x a b _ _ (players .calls p x) refl l (r .0), rw (front (Direct x) before calls a) (r .1))
+      (direct-said rules players two p x a b _ _ (players .calls p x) refl l (r .0), rw (front (Direct x) before calls a) (r .1))
 
--- a box that took a call was long enough
-good-first : (rules : Rules) → Lawful rules → {w v : WorldOf rules} {c : Call (rules .Given)} {calls : CallsOf rules} {saids : SaidsOf rules}
-    → History rules w (c ∷ calls) v saids → rules .Good (w .held)
-good-first rules law (byte {w = w} {s = s} {b = b} reply done met taken rest) =
-    byte-took rules law (socketNumber s) b (lends w s reply) done met taken .good
-good-first rules law (direct {w = w} {x = x} out done met taken rest) = direct-took rules law x (w .held) out done met taken .good
-
-module _ (rules : Rules) (players : Players rules) (w v w′ v′ : WorldOf rules) (calls calls′ : CallsOf rules) (saids saids′ : SaidsOf rules) where
-  -- where the boxes are long enough
-  unnoticed-good : rules .Good (w .held) → Unnoticed rules players w v w′ v′ calls calls′ saids saids′
-  unnoticed-good good law two new history new′ history′ e p q =
-      let d = demand3 rules w v calls saids law new history in
-      let d′ = demand3 rules w′ v′ calls′ saids′ law new′ history′ in
-      let good′ = rw e at good in
-      let alike : Like rules players p (w .held) (w′ .held) =
-      record { good = good; good′ = good′; shared = ap (players .shared) e; own = ap (players .own p) e } in
-      let itself : Like rules players p (w′ .held) (w′ .held) = record { good = good′; good′ = good′; shared = refl; own = refl } in
-      let k = rw q at (follow rules players law two (λ s. Idle) p [] calls (w .held) (w′ .held) alike) in
-      let k′ = follow rules players law two (λ s. Idle) p [] calls′ (w′ .held) (w′ .held) itself in
-      rw (d .each, d .held, d .order, d′ .each, d′ .held, d′ .order)
-      (record { said = k .0 ∙ sym (k′ .0); own = k .1 .own ∙ sym (k′ .1 .own); shared = k .1 .shared ∙ sym (k′ .1 .shared) })
-
--- Isolation. A run of no calls may be of a box that is too short; any other is of one that is long enough.
+-- Isolation, of a box that holds as much as the laws of one message ask.
 pub unnoticed : (rules : Rules) (players : Players rules) (w v w′ v′ : WorldOf rules) (calls calls′ : CallsOf rules) (saids saids′ : SaidsOf rules)
-    → Unnoticed rules players w v w′ v′ calls calls′ saids saids′
-unnoticed rules players w v w′ v′ [] [] saids saids′ law two new nothing new′ nothing e p q =
-    record { said = refl; own = ap (players .own p) e; shared = ap (players .shared) e }
-unnoticed rules players w v w′ v′ (c ∷ calls) calls′ saids saids′ law two new history new′ history′ e p q =
-    let good = good-first rules law history in
-    unnoticed-good rules players w v w′ v′ (c ∷ calls) calls′ saids saids′ good law two new history new′ history′ e p q
-unnoticed rules players w v w′ v′ [] (c ∷ calls′) saids saids′ law two new history new′ history′ e p q =
-    let good = rw (sym e) at (good-first rules law history′) in
-    unnoticed-good rules players w v w′ v′ [] (c ∷ calls′) saids saids′ good law two new history new′ history′ e p q
+    → Lawful rules → (two : TwoPlayers rules players) → two .Firm (w .held) → Isolated rules players w v w′ v′ calls calls′ saids saids′
+unnoticed rules players w v w′ v′ calls calls′ saids saids′ law two firm new history new′ history′ e p q =
+    let d = demand3 rules w v calls saids law new history in
+    let d′ = demand3 rules w′ v′ calls′ saids′ law new′ history′ in
+    let firm′ = rw e at firm in
+    let alike : Like rules players two p (w .held) (w′ .held) = record { firm = firm; firm′ = firm′; shared = ap (players .shared) e; own = ap (players .own p) e } in
+    let itself : Like rules players two p (w′ .held) (w′ .held) = record { firm = firm′; firm′ = firm′; shared = refl; own = refl } in
+    let k = rw q at (follow rules players two (λ s. Idle) p [] calls (w .held) (w′ .held) alike) in
+    let k′ = follow rules players two (λ s. Idle) p [] calls′ (w′ .held) (w′ .held) itself in
+    rw (d .each, d .held, d .order, d′ .each, d′ .held, d′ .order)
+    (record { said = k .0 ∙ sym (k′ .0); own = k .1 .own ∙ sym (k′ .1 .own); shared = k .1 .shared ∙ sym (k′ .1 .shared) })

@@ -5,8 +5,8 @@ use mathlib.Core.Path.{_≡_}
 use mathlib.Core.Bool.{Bool, true, false, cond}
 use mathlib.Core.List.{List, [], _∷_, _++_}
 use Rattle.sockets.specs.Framer.{Message, Happening, Nothing, Cut, Finished, Framer, Idle}
-use Rattle.sockets.specs.Calls.{Socket, Call, Byte, Direct, Finish, FromSocket, FromDirect, ifSame, handing, happens}
-use Rattle.sockets.specs.Box.{Rules, CallsOf, FinishesOf, SaidsOf, saidOf, Lawful}
+use Rattle.sockets.specs.Calls.{Socket, Call, Byte, Direct, ifSame, happens}
+use Rattle.sockets.specs.Box.{Rules, CallsOf, SaidsOf}
 use Rattle.sockets.specs.History.{WorldOf, History}
 use Rattle.sockets.specs.Demand.{Fresh}
 
@@ -22,39 +22,6 @@ pub record Players (rules : Rules) : Type 1 where
   pub stores : Message → Bool
   -- whether a direct call is this player's: "a panel message, a move list .. name their player"; one that names none, a sheet, is each player's
   pub calls : Socket → rules .Given → Bool
-  -- and whether a message that a direct call finishes is this player's
-  pub sends : Socket → rules .Delivered → Bool
-
-module _ (rules : Rules) (players : Players rules) (p : Socket) where
-  -- whether a finished message is player p's
-  abbrev pub isOf : Finish (rules .Delivered) → Bool
-  isOf (FromSocket s m) = ifSame p s true false
-  isOf (FromDirect x) = players .sends p x
-
-  abbrev pub AllOf : FinishesOf rules → Type 0
-  AllOf [] = Unit {0}
-  AllOf (f ∷ fs) = (isOf f ≡ true) × AllOf fs
-
--- what isolation asks of the rules, of one message at a time
-pub record TwoPlayers (rules : Rules) (players : Players rules) : Type 0 where
-  -- what a message makes of the programs goes by the programs, and not by any edit buffer
-  pub shared-by : (f : Finish (rules .Delivered)) (a b : rules .Held) → rules .Good a → rules .Good b
-      → players .shared a ≡ players .shared b
-      → players .shared (rules .carry a f .held) ≡ players .shared (rules .carry b f .held)
-  -- a message of a socket that stores no programs leaves them
-  pub shared-kept : (s : Socket) (m : Message) (a : rules .Held) → rules .Good a → players .stores m ≡ false
-      → players .shared (rules .carry a (FromSocket s m) .held) ≡ players .shared a
-  -- "act on the sender's own buffer": a message that is not player p's leaves player p's
-  pub own-kept : (p : Socket) (f : Finish (rules .Delivered)) (a : rules .Held) → rules .Good a → isOf rules players p f ≡ false
-      → players .own p (rules .carry a f .held) ≡ players .own p a
-  -- what player p's message makes of player p's buffer, and what it answers and sends, goes by the programs and that buffer
-  pub own-by : (p : Socket) (f : Finish (rules .Delivered)) (a b : rules .Held) → rules .Good a → rules .Good b → isOf rules players p f ≡ true
-      → players .shared a ≡ players .shared b
-      → players .own p a ≡ players .own p b
-      → (players .own p (rules .carry a f .held) ≡ players .own p (rules .carry b f .held))
-      × (saidOf (rules .carry a f) ≡ saidOf (rules .carry b f))
-  -- the messages of player p's direct call are player p's
-  pub calls-own : (p : Socket) (x : rules .Given) → players .calls p x ≡ true → AllOf rules players p (handing (rules .hands x))
 
 -- what two runs must have alike for player p, each in its place
 pub data Seen (Given : Type 0) : Type 0 where
@@ -107,10 +74,9 @@ module _ (rules : Rules) (players : Players rules) (p : Socket) where
 module _ (rules : Rules) (players : Players rules) (w v w′ v′ : WorldOf rules) (calls calls′ : CallsOf rules) (saids saids′ : SaidsOf rules) where
   -- "Take two runs under demand 3's premises with equal memory and marks, the same settings and kind, no call refused with 30 to 34": of one box's rules;
   -- "likewise with the players exchanged": for either player
-  abbrev pub Unnoticed : Type 0
-  Unnoticed =
-      Lawful rules → TwoPlayers rules players
-      → Fresh rules w → History rules w calls v saids
+  abbrev pub Isolated : Type 0
+  Isolated =
+      Fresh rules w → History rules w calls v saids
       → Fresh rules w′ → History rules w′ calls′ v′ saids′
       → w .held ≡ w′ .held
       → (p : Socket) → seenAfter rules players p (λ s. Idle) [] calls ≡ seenAfter rules players p (λ s. Idle) [] calls′

@@ -1,0 +1,67 @@
+-- Req 08, "Two players, one set of programs": what the players of this box share, what is each one's own, and whose a message is.
+use Prim.Native.Nat.{ℕ}
+use mathlib.Core.Bool.{Bool, true, false}
+use Rattle.kinds.specs.declared.Kind.{Kind}
+use Rattle.kinds.specs.Kinds.{kindOf}
+use Rattle.programs.specs.declared.Player.{Player}
+use Rattle.programs.specs.Memory.{programCount, allSize, partOf}
+use Rattle.programs.specs.Held.{Held, heldOf, Target, Edit, bytesIn, slotFor, slotsFor}
+use Rattle.sockets.specs.Framer.{Message, SysEx, TooLong, Channel}
+use Rattle.sockets.specs.Calls.{Socket, Finish, FromSocket, FromDirect, ifSame}
+use Rattle.sockets.specs.Promise.{socketOf}
+use Rattle.sockets.specs.Players.{Players}
+use Rattle.sysex.specs.declared.Settings.{Settings}
+use Rattle.sysex.specs.declared.Order.{Order}
+use Rattle.sysex.specs.declared.Order.the-variants as order
+use Rattle.sysex.specs.Judging.{judgeOf}
+use Rattle.podbox.specs.Box.{socketPlayer, Given, Whole, Moves, Delivered, FromPanel, FromList, boxRules}
+
+-- what a dump or a request of a player names, with its marks
+abbrev pub namedIn : Kind → Player → Target → Held → Held
+namedIn kind player t held = heldOf (bytesIn kind player t held) (partOf (slotFor player t) (slotsFor t) (held .marks))
+
+-- "each has an edit buffer": a player's, with its mark
+abbrev pub editIn : Kind → Player → Held → Held
+editIn kind player held = namedIn kind player Edit held
+
+-- "both share the 36 programs": with their marks
+abbrev pub programsIn : Kind → Held → Held
+programsIn kind held = heldOf (partOf 0 (allSize kind) (held .memory)) (partOf 0 programCount (held .marks))
+
+-- "program and all programs dumps" that no check refuses
+abbrev pub storesPrograms : Order → Bool
+storesPrograms (order.Identify cc) = false
+storesPrograms (order.SendProgram p) = false
+storesPrograms order.SendEdit = false
+storesPrograms order.SendAll = false
+storesPrograms (order.StoreProgram p) = true
+storesPrograms order.StoreEdit = false
+storesPrograms order.StoreAll = true
+storesPrograms (order.Refused check) = false
+
+abbrev pub messageStores : Kind → Settings → Message → Bool
+messageStores kind settings (SysEx body) = storesPrograms (judgeOf kind settings body)
+messageStores kind settings TooLong = false
+messageStores kind settings (Channel status first second) = false
+
+-- "a panel message, a move list .. name their player"
+abbrev pub names : Socket → Given → Bool
+names s (Whole playerNumber message) = ifSame s (socketOf playerNumber) true false
+names s (Moves playerNumber moves) = ifSame s (socketOf playerNumber) true false
+
+-- whose a finished message is
+abbrev pub senderOf : Finish Delivered → Socket
+senderOf (FromSocket s m) = s
+senderOf (FromDirect (FromPanel s message)) = s
+senderOf (FromDirect (FromList s m)) = s
+
+-- the players of a box, a socket's each
+abbrev pub boxPlayers : (kindNumber : ℕ) (settings : Settings) → Players (boxRules kindNumber settings)
+boxPlayers kindNumber settings = record {
+  Shared = Held;
+  shared = programsIn (kindOf kindNumber);
+  Own = Held;
+  own = λ s held. editIn (kindOf kindNumber) (socketPlayer s) held;
+  stores = messageStores (kindOf kindNumber) settings;
+  calls = names;
+}
