@@ -1,5 +1,7 @@
 -- The cases of two players are given.
-use mathlib.Core.Path.{refl}
+use mathlib.Core.List.{[]}
+use mathlib.Core.Path.{_≡_, refl, sym, ap, _∙_, subst}
+use Rattle.kinds.specs.declared.Kind.the-variants.{Pod}
 use Rattle.kinds.specs.Kinds.{isKind, kindOf, numberOf, sizeOf, hasSpare, deviceOf, identityOf, takesProgramChange, highestModel}
 use Rattle.programs.specs.Memory.{isPlayer, playerOf, editSlot}
 use Rattle.programs.specs.Spares.{withSpares, withoutSpares}
@@ -9,7 +11,14 @@ use Rattle.controls.specs.Applying.{storeRow, applyOf}
 use Rattle.controls.specs.Showing.{shownOf, backOf}
 use Rattle.framing.specs.Receiver.{soundOf, isWritten, countRight, runningRight, waitingRight, longIsFull, takesOne, takesTwo}
 use Rattle.framing.specs.Bytes.{stepOf}
+use Rattle.programs.specs.Held.{Held}
+use Rattle.sockets.specs.Framer.{Idle, hears}
+use Rattle.sockets.specs.Calls.{S0, finishes}
+use Rattle.sockets.specs.Box.{CallsOf, SaidsOf, finishedBy, heldAfter}
 use Rattle.sockets.specs.Promise.{stepDoes, byteOf, directOf}
+use Rattle.sockets.specs.History.{WorldOf, History, saidsAlong}
+use Rattle.sockets.specs.Demand.{Fresh}
+use Rattle.sockets.specs.Players.{seenAfter}
 use Rattle.sysex.specs.Forms.{bodyLength, isIdentity, isOurChannel}
 use Rattle.sysex.specs.Judging.{hasForm, hasProgram, furtherTests, orderOf, bodyOrder, judgeOf}
 use Rattle.carrying.specs.Carrying.{orderDoes}
@@ -17,8 +26,11 @@ use Rattle.podbox.specs.Settings.{isValid, areMarks, freshSettings, freshHeld}
 use Rattle.podbox.specs.Messages.{isHeard, isController, isProgramChange, channelDoes, messageDoes}
 use Rattle.podbox.specs.Whole.{isFramed, messageOrder}
 use Rattle.screen.specs.Screen.{screenOf}
+use Rattle.demands.specs.Duo.{boxPlayers}
+use Rattle.demands.proofs.Sockets.{box-demand3}
 use Rattle.cases.specs.Case.{AllGiven}
-use Rattle.cases.specs.Duo.{freshBox, controllers, changes, dumps, requests, shared, naming, orders, byte48, screens, duo}
+use Rattle.cases.specs.ShutOut.{pod, freshRules}
+use Rattle.cases.specs.Duo.{freshBox, controllers, changes, dumps, requests, shared, naming, orders, byte48, screens, duo, selecting, SaidThen, HeldThen, firstRun, secondRun, DumpThen, KnobsThen}
 use Rattle.cases.proofs.Case.{both-given}
 
 fresh-box-given : AllGiven freshBox
@@ -64,3 +76,30 @@ screens-given = refl
 pub as-a-duo : AllGiven duo
 as-a-duo =
     both-given freshBox _ fresh-box-given (both-given controllers _ controllers-given (both-given changes _ changes-given (both-given dumps _ dumps-given (both-given requests _ requests-given (both-given shared _ shared-given (both-given naming _ naming-given (both-given orders _ orders-given (both-given byte48 _ byte-48-given screens-given))))))))
+
+-- what a run of a fresh box leaves, by demand 3's own words
+abbrev leftBy : CallsOf freshRules → Held
+leftBy calls = heldAfter freshRules (freshHeld Pod) (finishedBy freshRules (λ s. Idle) [] calls)
+
+story : SaidThen (saidsAlong freshRules (λ s. Idle) (freshHeld Pod) [] selecting) × HeldThen (leftBy selecting)
+unfolding kindOf numberOf sizeOf playerOf editSlot applyOf storeRow numberBy numberFor nextFor rowOf table highestModel effectOf selections selected freshSettings freshHeld hears finishes takesOne isHeard isController channelDoes messageDoes
+story = (refl, (refl, refl))
+
+-- every history of these calls answers so and leaves this
+pub as-they-select : (w v : WorldOf freshRules) (saids : SaidsOf freshRules) → Fresh freshRules w → w .held ≡ freshHeld Pod → History freshRules w selecting v saids
+    → SaidThen saids × HeldThen (v .held)
+as-they-select w v saids new e history =
+    let d = box-demand3 pod freshSettings w v selecting saids new history in (
+      subst SaidThen (sym (d .each ∙ ap (λ (held : Held). saidsAlong freshRules (λ s. Idle) held [] selecting) e)) (story .0),
+      subst HeldThen (sym (d .held ∙ (λ i. heldAfter freshRules (e i) (d .order i)))) (story .1),
+    )
+
+-- player one sees the same of both runs
+pub seen-alike : seenAfter freshRules (boxPlayers pod freshSettings) S0 (λ s. Idle) [] firstRun ≡ seenAfter freshRules (boxPlayers pod freshSettings) S0 (λ s. Idle) [] secondRun
+unfolding kindOf numberOf sizeOf hasSpare deviceOf freshSettings hears takesOne bodyLength isIdentity hasForm hasProgram furtherTests bodyOrder orderOf judgeOf
+seen-alike = refl
+
+-- and yet they differ
+pub left-apart : DumpThen (leftBy firstRun) × KnobsThen (leftBy secondRun)
+unfolding kindOf numberOf sizeOf hasSpare deviceOf playerOf editSlot withSpares applyOf storeRow numberBy numberFor nextFor rowOf table highestModel effectOf selections selected freshSettings freshHeld hears finishes takesOne bodyLength isIdentity hasForm hasProgram furtherTests bodyOrder orderOf judgeOf orderDoes isHeard isController channelDoes messageDoes
+left-apart = ((refl, refl, refl), (refl, refl, refl))

@@ -2,7 +2,7 @@
 use Prim.Native.Nat.{ℕ}
 use mathlib.Core.List.{List, [], _∷_, _++_, map}
 use mathlib.Core.Path.{_≡_}
-use lib.ListN.{length, getD, replicate, set, take}
+use lib.ListN.{length, getD, replicate, set, take, drop}
 use Rattle.ground.specs.Lists.{written}
 use Rattle.ground.specs.Tests.{tested}
 use Rattle.kinds.specs.declared.Kind.{Kind}
@@ -13,7 +13,7 @@ use Rattle.programs.specs.Memory.{playerOf}
 use Rattle.programs.specs.Held.{Held, heldOf, One, Edit, All, bytesIn}
 use Rattle.framing.specs.declared.Receiver.{Receiver}
 use Rattle.framing.specs.Receiver.{underOf, holdingOf, openedOf}
-use Rattle.sockets.specs.Calls.{S0, S1, Call, Byte}
+use Rattle.sockets.specs.Calls.{S0, S1, Call, Byte, feed}
 use Rattle.sockets.specs.Box.{Said}
 use Rattle.sysex.specs.declared.Settings.{Settings}
 use Rattle.sysex.specs.declared.Answer.{Answer}
@@ -353,3 +353,37 @@ screens =
 
 abbrev pub duo : List Case
 duo = freshBox ++ (controllers ++ (changes ++ (dumps ++ (requests ++ (shared ++ (naming ++ (orders ++ (byte48 ++ screens))))))))
+
+-- Rotary on socket 0 and flanger on socket 1, byte mixed with byte, then a rotary move on each: what each byte is answered, and bytes 46 and 48 of each player
+-- then.
+abbrev pub selecting : List (Call Given)
+selecting =
+    Byte S0 0xB0 ∷ Byte S1 0xB0 ∷ Byte S1 19 ∷ Byte S0 19 ∷ Byte S0 2 ∷ Byte S1 1 ∷ Byte S1 55 ∷ Byte S0 55 ∷ Byte S1 127 ∷ Byte S0 127 ∷ []
+
+abbrev pub SaidThen : List (Said Answer) → Type 0
+SaidThen saids = noted saids ≡ 0 ∷ 0 ∷ 0 ∷ 0 ∷ 3 ∷ 3 ∷ 0 ∷ 0 ∷ 19 ∷ 3 ∷ []
+
+abbrev pub HeldThen : Held → Type 0
+HeldThen held = (editAt Pod players.One held (46 ∷ 48 ∷ []) ≡ 2 ∷ 1 ∷ []) × (editAt Pod players.Two held (46 ∷ 48 ∷ []) ≡ 1 ∷ 0 ∷ [])
+
+-- Two runs of one fresh box in which player one sends the same bytes, a controller and a request for his edit buffer. Player two sends an edit dump in the first and
+-- turns knobs in the second, at other places among player one's bytes; no dump of programs is finished.
+abbrev pub sentDump : List ℕ
+sentDump = dumped Pod Edit 71
+
+abbrev pub firstRun : List (Call Given)
+firstRun =
+    feed S1 (take 80 sentDump) ++ (feed S0 (0xB0 ∷ 12 ∷ []) ++ (feed S1 (drop 80 sentDump) ++ feed S0 (27 ∷ asked Pod Edit)))
+
+abbrev pub secondRun : List (Call Given)
+secondRun =
+    feed S0 (0xB0 ∷ []) ++ (feed S1 (0xB0 ∷ 12 ∷ 5 ∷ 13 ∷ []) ++ (feed S0 (12 ∷ 27 ∷ asked Pod Edit) ++ feed S1 (127 ∷ 0xF0 ∷ [])))
+
+-- what they leave in player two's: the dump with its mark, or what the knobs store
+abbrev pub DumpThen : Held → Type 0
+DumpThen held =
+    (editAt Pod players.One held (8 ∷ 9 ∷ []) ≡ 27 ∷ 0 ∷ []) × (editAt Pod players.Two held (8 ∷ 9 ∷ []) ≡ 108 ∷ 109 ∷ []) × (held .marks ≡ but 37 0)
+
+abbrev pub KnobsThen : Held → Type 0
+KnobsThen held =
+    (editAt Pod players.One held (8 ∷ 9 ∷ []) ≡ 27 ∷ 0 ∷ []) × (editAt Pod players.Two held (8 ∷ 9 ∷ []) ≡ 5 ∷ 63 ∷ []) × (held .marks ≡ ones)
