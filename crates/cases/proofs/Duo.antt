@@ -14,7 +14,7 @@ use Rattle.framing.specs.Bytes.{stepOf}
 use Rattle.programs.specs.Held.{Held}
 use Rattle.sockets.specs.Framer.{Idle, hears}
 use Rattle.sockets.specs.Calls.{S0, finishes}
-use Rattle.sockets.specs.Box.{CallsOf, SaidsOf, finishedBy, heldAfter}
+use Rattle.sockets.specs.Box.{SaidsOf, finishedBy, heldAfter}
 use Rattle.sockets.specs.Promise.{stepDoes, byteOf, directOf}
 use Rattle.sockets.specs.History.{WorldOf, History, saidsAlong}
 use Rattle.sockets.specs.Demand.{Fresh}
@@ -30,7 +30,7 @@ use Rattle.demands.specs.Duo.{boxPlayers}
 use Rattle.demands.proofs.Sockets.{box-demand3}
 use Rattle.cases.specs.Case.{AllGiven}
 use Rattle.cases.specs.ShutOut.{pod, freshRules}
-use Rattle.cases.specs.Duo.{freshBox, controllers, changes, dumps, requests, shared, naming, orders, byte48, screens, duo, selecting, SaidThen, HeldThen, firstRun, secondRun, DumpThen, KnobsThen}
+use Rattle.cases.specs.Duo.{freshBox, controllers, changes, dumps, requests, shared, naming, orders, byte48, screens, duo, selecting, SaidThen, HeldThen, firstRun, secondRun, dumpFinished, knobsFinished, DumpThen, KnobsThen}
 use Rattle.cases.proofs.Case.{both-given}
 
 fresh-box-given : AllGiven freshBox
@@ -77,11 +77,9 @@ pub as-a-duo : AllGiven duo
 as-a-duo =
     both-given freshBox _ fresh-box-given (both-given controllers _ controllers-given (both-given changes _ changes-given (both-given dumps _ dumps-given (both-given requests _ requests-given (both-given shared _ shared-given (both-given naming _ naming-given (both-given orders _ orders-given (both-given byte48 _ byte-48-given screens-given))))))))
 
--- what a run of a fresh box leaves, by demand 3's own words
-abbrev leftBy : CallsOf freshRules → Held
-leftBy calls = heldAfter freshRules (freshHeld Pod) (finishedBy freshRules (λ s. Idle) [] calls)
-
-story : SaidThen (saidsAlong freshRules (λ s. Idle) (freshHeld Pod) [] selecting) × HeldThen (leftBy selecting)
+-- what antt computes of the run, by demand 3's own words
+story : SaidThen (saidsAlong freshRules (λ s. Idle) (freshHeld Pod) [] selecting)
+    × HeldThen (heldAfter freshRules (freshHeld Pod) (finishedBy freshRules (λ s. Idle) [] selecting))
 unfolding kindOf numberOf sizeOf playerOf editSlot applyOf storeRow numberBy numberFor nextFor rowOf table highestModel effectOf selections selected freshSettings freshHeld hears finishes takesOne isHeard isController channelDoes messageDoes
 story = (refl, (refl, refl))
 
@@ -99,7 +97,11 @@ pub seen-alike : seenAfter freshRules (boxPlayers pod freshSettings) S0 (λ s. I
 unfolding kindOf numberOf sizeOf hasSpare deviceOf freshSettings hears takesOne bodyLength isIdentity hasForm hasProgram furtherTests bodyOrder orderOf judgeOf
 seen-alike = refl
 
--- and yet they differ
-pub left-apart : DumpThen (leftBy firstRun) × KnobsThen (leftBy secondRun)
-unfolding kindOf numberOf sizeOf hasSpare deviceOf playerOf editSlot withSpares applyOf storeRow numberBy numberFor nextFor rowOf table highestModel effectOf selections selected freshSettings freshHeld hears finishes takesOne bodyLength isIdentity hasForm hasProgram furtherTests bodyOrder orderOf judgeOf orderDoes isHeard isController channelDoes messageDoes
-left-apart = ((refl, refl, refl), (refl, refl, refl))
+-- and yet they differ: in what they finish, and in player two's edit buffer and its mark
+pub finished-apart : (finishedBy freshRules (λ s. Idle) [] firstRun ≡ dumpFinished) × (finishedBy freshRules (λ s. Idle) [] secondRun ≡ knobsFinished)
+unfolding dumpFinished knobsFinished kindOf numberOf sizeOf deviceOf hears finishes takesOne
+finished-apart = (refl, refl)
+
+pub left-apart : DumpThen (heldAfter freshRules (freshHeld Pod) dumpFinished) × KnobsThen (heldAfter freshRules (freshHeld Pod) knobsFinished)
+unfolding dumpFinished knobsFinished kindOf numberOf sizeOf hasSpare deviceOf playerOf editSlot withSpares applyOf storeRow numberBy numberFor nextFor rowOf table highestModel effectOf selections selected freshSettings freshHeld bodyLength isIdentity hasForm hasProgram furtherTests bodyOrder orderOf judgeOf orderDoes isHeard isController channelDoes messageDoes
+left-apart = ((refl, refl), (refl, refl))

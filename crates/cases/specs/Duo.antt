@@ -13,7 +13,8 @@ use Rattle.programs.specs.Memory.{playerOf}
 use Rattle.programs.specs.Held.{Held, heldOf, One, Edit, All, bytesIn}
 use Rattle.framing.specs.declared.Receiver.{Receiver}
 use Rattle.framing.specs.Receiver.{underOf, holdingOf, openedOf}
-use Rattle.sockets.specs.Calls.{S0, S1, Call, Byte, feed}
+use Rattle.sockets.specs.Framer.{SysEx, Channel}
+use Rattle.sockets.specs.Calls.{S0, S1, Call, Byte, Finish, FromSocket, feed}
 use Rattle.sockets.specs.Box.{Said}
 use Rattle.sysex.specs.declared.Settings.{Settings}
 use Rattle.sysex.specs.declared.Answer.{Answer}
@@ -22,7 +23,7 @@ use Rattle.sysex.specs.Numbers.{answerNumber, answerLength}
 use Rattle.carrying.specs.Carrying.{Left}
 use Rattle.podbox.specs.declared.Move.{Move}
 use Rattle.podbox.specs.Settings.{freshSettings, freshHeld}
-use Rattle.podbox.specs.Box.{Given, Took, noted, takeOf, wholeOf, movesOf}
+use Rattle.podbox.specs.Box.{Given, Delivered, Took, noted, takeOf, wholeOf, movesOf}
 use Rattle.screen.specs.Parts.{Slice}
 use Rattle.screen.specs.Screen.{screenOf}
 use Rattle.demands.specs.Order.{showingTests}
@@ -379,11 +380,18 @@ abbrev pub secondRun : List (Call Given)
 secondRun =
     feed S0 (0xB0 ∷ []) ++ (feed S1 (0xB0 ∷ 12 ∷ 5 ∷ 13 ∷ []) ++ (feed S0 (12 ∷ 27 ∷ asked Pod Edit) ++ feed S1 (127 ∷ 0xF0 ∷ [])))
 
--- what they leave in player two's: the dump with its mark, or what the knobs store
+-- the messages that they finish
+unfoldable pub dumpFinished : List (Finish Delivered)
+dumpFinished =
+    FromSocket S1 (SysEx (dumpBody Pod Edit (rising 71))) ∷ FromSocket S0 (Channel 0xB0 12 27) ∷ FromSocket S0 (SysEx (requestBody Pod Edit)) ∷ []
+
+unfoldable pub knobsFinished : List (Finish Delivered)
+knobsFinished =
+    FromSocket S1 (Channel 0xB0 12 5) ∷ FromSocket S0 (Channel 0xB0 12 27) ∷ FromSocket S0 (SysEx (requestBody Pod Edit)) ∷ FromSocket S1 (Channel 0xB0 13 127) ∷ []
+
+-- what they leave in player two's: the dump's bytes and its mark, or what the knobs store
 abbrev pub DumpThen : Held → Type 0
-DumpThen held =
-    (editAt Pod players.One held (8 ∷ 9 ∷ []) ≡ 27 ∷ 0 ∷ []) × (editAt Pod players.Two held (8 ∷ 9 ∷ []) ≡ 108 ∷ 109 ∷ []) × (held .marks ≡ but 37 0)
+DumpThen held = (editAt Pod players.Two held (8 ∷ 9 ∷ []) ≡ 108 ∷ 109 ∷ []) × (held .marks ≡ but 37 0)
 
 abbrev pub KnobsThen : Held → Type 0
-KnobsThen held =
-    (editAt Pod players.One held (8 ∷ 9 ∷ []) ≡ 27 ∷ 0 ∷ []) × (editAt Pod players.Two held (8 ∷ 9 ∷ []) ≡ 5 ∷ 63 ∷ []) × (held .marks ≡ ones)
+KnobsThen held = (editAt Pod players.Two held (8 ∷ 9 ∷ []) ≡ 5 ∷ 63 ∷ []) × (held .marks ≡ ones)
