@@ -7,7 +7,7 @@ use Rattle.ground.specs.Lists.{written}
 use Rattle.ground.specs.Tests.{tested}
 use Rattle.kinds.specs.declared.Kind.{Kind}
 use Rattle.kinds.specs.declared.Kind.the-variants.{Pod, BassPod, PodPro}
-use Rattle.kinds.specs.Kinds.{kindOf, numberOf}
+use Rattle.kinds.specs.Kinds.{numberOf}
 use Rattle.programs.specs.declared.Player.the-variants as players
 use Rattle.programs.specs.Memory.{playerOf}
 use Rattle.programs.specs.Held.{Held, heldOf, One, Edit, All, bytesIn}
