@@ -1,6 +1,7 @@
 -- The cases of a Bass box are given.
 use mathlib.Core.Path.{refl}
 use Rattle.kinds.specs.Kinds.{isKind, kindOf, numberOf, sizeOf, hasSpare, deviceOf, identityOf, takesProgramChange, highestModel}
+use Rattle.programs.specs.Memory.{isPlayer, playerOf, editSlot}
 use Rattle.controls.specs.Formulas.{numberBy, numberFor, mOf, nextFor}
 use Rattle.controls.specs.Table.{table, rowOf, selections, effectOf, selected}
 use Rattle.controls.specs.Scaling.{scaleOf}
@@ -20,23 +21,23 @@ use Rattle.cases.specs.Bass.{forms, headers, controllers, changes, kinds
 use Rattle.cases.proofs.Case.{both-given}
 
 forms-given : AllGiven forms
-unfolding forms isKind kindOf numberOf sizeOf hasSpare deviceOf identityOf takesProgramChange scaleOf applyOf storeRow backOf shownOf numberBy numberFor mOf nextFor rowOf table highestModel effectOf selections selected freshSettings freshHeld soundOf isWritten countRight runningRight waitingRight longIsFull takesOne takesTwo stepOf stepDoes byteOf directOf bodyLength isIdentity hasForm hasProgram furtherTests bodyOrder orderOf orderDoes isValid areMarks isHeard isController isProgramChange isOurChannel channelDoes messageDoes isFramed messageOrder
+unfolding forms isKind kindOf numberOf sizeOf hasSpare deviceOf identityOf takesProgramChange scaleOf applyOf storeRow backOf shownOf numberBy numberFor mOf nextFor rowOf table highestModel effectOf selections selected freshSettings freshHeld isPlayer playerOf editSlot soundOf isWritten countRight runningRight waitingRight longIsFull takesOne takesTwo stepOf stepDoes byteOf directOf bodyLength isIdentity hasForm hasProgram furtherTests bodyOrder orderOf orderDoes isValid areMarks isHeard isController isProgramChange isOurChannel channelDoes messageDoes isFramed messageOrder
 forms-given = refl
 
 headers-given : AllGiven headers
-unfolding headers isKind kindOf numberOf sizeOf hasSpare deviceOf identityOf takesProgramChange scaleOf applyOf storeRow backOf shownOf numberBy numberFor mOf nextFor rowOf table highestModel effectOf selections selected freshSettings freshHeld soundOf isWritten countRight runningRight waitingRight longIsFull takesOne takesTwo stepOf stepDoes byteOf directOf bodyLength isIdentity hasForm hasProgram furtherTests bodyOrder orderOf orderDoes isValid areMarks isHeard isController isProgramChange isOurChannel channelDoes messageDoes isFramed messageOrder
+unfolding headers isKind kindOf numberOf sizeOf hasSpare deviceOf identityOf takesProgramChange scaleOf applyOf storeRow backOf shownOf numberBy numberFor mOf nextFor rowOf table highestModel effectOf selections selected freshSettings freshHeld isPlayer playerOf editSlot soundOf isWritten countRight runningRight waitingRight longIsFull takesOne takesTwo stepOf stepDoes byteOf directOf bodyLength isIdentity hasForm hasProgram furtherTests bodyOrder orderOf orderDoes isValid areMarks isHeard isController isProgramChange isOurChannel channelDoes messageDoes isFramed messageOrder
 headers-given = refl
 
 controllers-given : AllGiven controllers
-unfolding controllers isKind kindOf numberOf sizeOf hasSpare deviceOf identityOf takesProgramChange scaleOf applyOf storeRow backOf shownOf numberBy numberFor mOf nextFor rowOf table highestModel effectOf selections selected freshSettings freshHeld soundOf isWritten countRight runningRight waitingRight longIsFull takesOne takesTwo stepOf stepDoes byteOf directOf bodyLength isIdentity hasForm hasProgram furtherTests bodyOrder orderOf orderDoes isValid areMarks isHeard isController isProgramChange isOurChannel channelDoes messageDoes isFramed messageOrder
+unfolding controllers isKind kindOf numberOf sizeOf hasSpare deviceOf identityOf takesProgramChange scaleOf applyOf storeRow backOf shownOf numberBy numberFor mOf nextFor rowOf table highestModel effectOf selections selected freshSettings freshHeld isPlayer playerOf editSlot soundOf isWritten countRight runningRight waitingRight longIsFull takesOne takesTwo stepOf stepDoes byteOf directOf bodyLength isIdentity hasForm hasProgram furtherTests bodyOrder orderOf orderDoes isValid areMarks isHeard isController isProgramChange isOurChannel channelDoes messageDoes isFramed messageOrder
 controllers-given = refl
 
 changes-given : AllGiven changes
-unfolding changes isKind kindOf numberOf sizeOf hasSpare deviceOf identityOf takesProgramChange scaleOf applyOf storeRow backOf shownOf numberBy numberFor mOf nextFor rowOf table highestModel effectOf selections selected freshSettings freshHeld soundOf isWritten countRight runningRight waitingRight longIsFull takesOne takesTwo stepOf stepDoes byteOf directOf bodyLength isIdentity hasForm hasProgram furtherTests bodyOrder orderOf orderDoes isValid areMarks isHeard isController isProgramChange isOurChannel channelDoes messageDoes isFramed messageOrder
+unfolding changes isKind kindOf numberOf sizeOf hasSpare deviceOf identityOf takesProgramChange scaleOf applyOf storeRow backOf shownOf numberBy numberFor mOf nextFor rowOf table highestModel effectOf selections selected freshSettings freshHeld isPlayer playerOf editSlot soundOf isWritten countRight runningRight waitingRight longIsFull takesOne takesTwo stepOf stepDoes byteOf directOf bodyLength isIdentity hasForm hasProgram furtherTests bodyOrder orderOf orderDoes isValid areMarks isHeard isController isProgramChange isOurChannel channelDoes messageDoes isFramed messageOrder
 changes-given = refl
 
 kinds-given : AllGiven kinds
-unfolding kinds isKind kindOf numberOf sizeOf hasSpare deviceOf identityOf takesProgramChange scaleOf applyOf storeRow backOf shownOf numberBy numberFor mOf nextFor rowOf table highestModel effectOf selections selected freshSettings freshHeld soundOf isWritten countRight runningRight waitingRight longIsFull takesOne takesTwo stepOf stepDoes byteOf directOf bodyLength isIdentity hasForm hasProgram furtherTests bodyOrder orderOf orderDoes isValid areMarks isHeard isController isProgramChange isOurChannel channelDoes messageDoes isFramed messageOrder
+unfolding kinds isKind kindOf numberOf sizeOf hasSpare deviceOf identityOf takesProgramChange scaleOf applyOf storeRow backOf shownOf numberBy numberFor mOf nextFor rowOf table highestModel effectOf selections selected freshSettings freshHeld isPlayer playerOf editSlot soundOf isWritten countRight runningRight waitingRight longIsFull takesOne takesTwo stepOf stepDoes byteOf directOf bodyLength isIdentity hasForm hasProgram furtherTests bodyOrder orderOf orderDoes isValid areMarks isHeard isController isProgramChange isOurChannel channelDoes messageDoes isFramed messageOrder
 kinds-given = refl
 
 pub as-requested : AllGiven bass

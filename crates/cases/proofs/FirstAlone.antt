@@ -5,6 +5,7 @@ use native.Mathlib.Omega.{arith}
 use lib.ListN.{take}
 use Rattle.kinds.specs.declared.Kind.the-variants.{Pod}
 use Rattle.kinds.specs.Kinds.{kindOf, numberOf, sizeOf, highestModel}
+use Rattle.programs.specs.Memory.{isPlayer, playerOf, editSlot}
 use Rattle.controls.specs.Formulas.{numberBy, numberFor, nextFor}
 use Rattle.controls.specs.Table.{table, rowOf, selections, effectOf, selected}
 use Rattle.controls.specs.Applying.{storeRow, applyOf}
@@ -25,7 +26,7 @@ finished = finishedBy freshRules (λ s. Idle) [] twoMoves
 
 -- byte 8 after both, and after the first
 computed : (model (heldAfter freshRules (freshHeld Pod) finished) ≡ 5) × (model (heldAfter freshRules (freshHeld Pod) (take 1 finished)) ≡ 27)
-unfolding kindOf numberOf sizeOf freshSettings freshHeld hears finishes takesOne isHeard isController channelDoes messageDoes applyOf storeRow rowOf table highestModel numberBy numberFor nextFor effectOf selections selected
+unfolding kindOf numberOf sizeOf freshSettings freshHeld isPlayer playerOf editSlot hears finishes takesOne isHeard isController channelDoes messageDoes applyOf storeRow rowOf table highestModel numberBy numberFor nextFor effectOf selections selected
 computed = (refl, refl)
 
 pub first-alone : (w v : WorldOf freshRules) (saids : SaidsOf freshRules) → Fresh freshRules w → w .held ≡ freshHeld Pod

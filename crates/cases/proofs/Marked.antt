@@ -1,6 +1,7 @@
 -- The marked cases are given.
 use mathlib.Core.Path.{refl}
 use Rattle.kinds.specs.Kinds.{isKind, kindOf, numberOf, sizeOf, hasSpare, deviceOf, highestModel}
+use Rattle.programs.specs.Memory.{isPlayer, playerOf, editSlot}
 use Rattle.halves.specs.Moving.{joinInto}
 use Rattle.controls.specs.Formulas.{numberBy, numberFor, mOf, nextFor}
 use Rattle.controls.specs.Table.{table, rowOf, selections, effectOf, selected}
@@ -20,5 +21,5 @@ use Rattle.cases.specs.Case.{AllGiven}
 use Rattle.cases.specs.Marked.{marked}
 
 pub as-the-paper-says : AllGiven marked
-unfolding marked isKind kindOf numberOf sizeOf hasSpare deviceOf joinInto scaleOf applyOf storeRow backOf shownOf numberBy numberFor mOf nextFor rowOf table highestModel effectOf selections selected freshSettings freshHeld soundOf isWritten countRight runningRight waitingRight longIsFull takesOne takesTwo stepOf stepDoes byteOf directOf bodyLength isIdentity hasForm hasProgram furtherTests bodyOrder orderOf orderDoes isValid areMarks isHeard isController channelDoes messageDoes isFramed messageOrder
+unfolding marked isKind kindOf numberOf sizeOf hasSpare deviceOf joinInto scaleOf applyOf storeRow backOf shownOf numberBy numberFor mOf nextFor rowOf table highestModel effectOf selections selected freshSettings freshHeld isPlayer playerOf editSlot soundOf isWritten countRight runningRight waitingRight longIsFull takesOne takesTwo stepOf stepDoes byteOf directOf bodyLength isIdentity hasForm hasProgram furtherTests bodyOrder orderOf orderDoes isValid areMarks isHeard isController channelDoes messageDoes isFramed messageOrder
 as-the-paper-says = refl

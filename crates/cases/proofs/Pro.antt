@@ -1,6 +1,7 @@
 -- The cases of a POD Pro are given.
 use mathlib.Core.Path.{refl}
 use Rattle.kinds.specs.Kinds.{isKind, kindOf, numberOf, sizeOf, hasSpare, deviceOf, identityOf, takesProgramChange, highestModel, isKnownModel}
+use Rattle.programs.specs.Memory.{isPlayer, playerOf, editSlot}
 use Rattle.programs.specs.Spares.{withSpares, withoutSpares}
 use Rattle.controls.specs.Formulas.{numberBy, numberFor, nextFor}
 use Rattle.controls.specs.Table.{table, rowOf, selections, effectOf, selected}
@@ -21,23 +22,23 @@ use Rattle.cases.specs.Pro.{identities, forms, controllers, stored, stor
 use Rattle.cases.proofs.Case.{both-given}
 
 identities-given : AllGiven identities
-unfolding identities isKind kindOf numberOf sizeOf identityOf freshSettings freshHeld directOf isIdentity isOurChannel hasForm furtherTests bodyOrder orderOf orderDoes isValid areMarks isFramed messageOrder
+unfolding identities isKind kindOf numberOf sizeOf identityOf freshSettings freshHeld isPlayer playerOf editSlot directOf isIdentity isOurChannel hasForm furtherTests bodyOrder orderOf orderDoes isValid areMarks isFramed messageOrder
 identities-given = refl
 
 forms-given : AllGiven forms
-unfolding forms isKind kindOf numberOf sizeOf hasSpare deviceOf withSpares withoutSpares freshSettings freshHeld directOf bodyLength isIdentity hasForm hasProgram furtherTests bodyOrder orderOf orderDoes isValid areMarks isFramed messageOrder
+unfolding forms isKind kindOf numberOf sizeOf hasSpare deviceOf withSpares withoutSpares freshSettings freshHeld isPlayer playerOf editSlot directOf bodyLength isIdentity hasForm hasProgram furtherTests bodyOrder orderOf orderDoes isValid areMarks isFramed messageOrder
 forms-given = refl
 
 controllers-given : AllGiven controllers
-unfolding controllers isKind kindOf numberOf sizeOf takesProgramChange scaleOf applyOf storeRow backOf shownOf numberBy numberFor nextFor rowOf table highestModel effectOf selections selected freshSettings freshHeld soundOf isWritten countRight runningRight waitingRight longIsFull takesOne takesTwo stepOf stepDoes byteOf directOf isValid areMarks isHeard isController isProgramChange channelDoes messageDoes
+unfolding controllers isKind kindOf numberOf sizeOf takesProgramChange scaleOf applyOf storeRow backOf shownOf numberBy numberFor nextFor rowOf table highestModel effectOf selections selected freshSettings freshHeld isPlayer playerOf editSlot soundOf isWritten countRight runningRight waitingRight longIsFull takesOne takesTwo stepOf stepDoes byteOf directOf isValid areMarks isHeard isController isProgramChange channelDoes messageDoes
 controllers-given = refl
 
 stored-given : AllGiven stored
-unfolding stored isKind kindOf numberOf sizeOf hasSpare deviceOf withSpares withoutSpares freshSettings freshHeld directOf bodyLength isIdentity hasForm hasProgram furtherTests bodyOrder orderOf orderDoes isValid areMarks isFramed messageOrder
+unfolding stored isKind kindOf numberOf sizeOf hasSpare deviceOf withSpares withoutSpares freshSettings freshHeld isPlayer playerOf editSlot directOf bodyLength isIdentity hasForm hasProgram furtherTests bodyOrder orderOf orderDoes isValid areMarks isFramed messageOrder
 stored-given = refl
 
 stored-all-given : AllGiven storedAll
-unfolding storedAll isKind kindOf numberOf sizeOf hasSpare deviceOf withSpares withoutSpares freshSettings freshHeld directOf bodyLength isIdentity hasForm hasProgram furtherTests bodyOrder orderOf orderDoes isValid areMarks isFramed messageOrder
+unfolding storedAll isKind kindOf numberOf sizeOf hasSpare deviceOf withSpares withoutSpares freshSettings freshHeld isPlayer playerOf editSlot directOf bodyLength isIdentity hasForm hasProgram furtherTests bodyOrder orderOf orderDoes isValid areMarks isFramed messageOrder
 stored-all-given = refl
 
 models-given : AllGiven models
@@ -45,7 +46,7 @@ unfolding models isKnownModel highestModel
 models-given = refl
 
 kinds-given : AllGiven kinds
-unfolding kinds isKind kindOf numberOf sizeOf freshSettings freshHeld soundOf isWritten countRight runningRight waitingRight longIsFull stepOf stepDoes byteOf directOf orderDoes isValid areMarks isFramed messageOrder
+unfolding kinds isKind kindOf numberOf sizeOf freshSettings freshHeld isPlayer playerOf editSlot soundOf isWritten countRight runningRight waitingRight longIsFull stepOf stepDoes byteOf directOf orderDoes isValid areMarks isFramed messageOrder
 kinds-given = refl
 
 pub as-a-pro : AllGiven pro

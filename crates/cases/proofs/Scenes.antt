@@ -3,6 +3,7 @@ use mathlib.Core.List.{[]}
 use mathlib.Core.Path.{_≡_, refl, sym, ap, _∙_, subst}
 use Rattle.kinds.specs.declared.Kind.the-variants.{Pod}
 use Rattle.kinds.specs.Kinds.{isKind, kindOf, numberOf, sizeOf, hasSpare, deviceOf, takesProgramChange, highestModel}
+use Rattle.programs.specs.Memory.{isPlayer, playerOf, editSlot}
 use Rattle.controls.specs.Formulas.{numberBy, numberFor, nextFor}
 use Rattle.controls.specs.Table.{table, rowOf, selections, effectOf, selected}
 use Rattle.controls.specs.Applying.{storeRow, applyOf}
@@ -26,14 +27,14 @@ use Rattle.cases.specs.ShutOut.{pod, freshRules}
 use Rattle.cases.specs.Scenes.{scenes, between, inTurn, numbers, SaidInTurn, HeldThen}
 
 pub as-the-desk-sends : AllGiven scenes
-unfolding scenes isKind kindOf numberOf sizeOf applyOf storeRow numberBy numberFor nextFor rowOf table highestModel effectOf selections selected freshSettings freshHeld isValid isHeard isController isProgramChange takesProgramChange channelDoes messageDoes directOf
+unfolding scenes isKind kindOf numberOf sizeOf applyOf storeRow numberBy numberFor nextFor rowOf table highestModel effectOf selections selected freshSettings freshHeld isPlayer playerOf editSlot isValid isHeard isController isProgramChange takesProgramChange channelDoes messageDoes directOf
 as-the-desk-sends = refl
 
 -- what antt computes of the run, by demand 3's own words
 computed : (finishedBy freshRules (λ s. Idle) [] between ≡ inTurn)
     × SaidInTurn (saidsAlong freshRules (λ s. Idle) (freshHeld Pod) [] between) × HeldThen (heldAfter freshRules (freshHeld Pod) inTurn)
-unfolding inTurn numbers kindOf numberOf sizeOf hasSpare deviceOf applyOf storeRow numberBy numberFor nextFor rowOf table highestModel effectOf selections selected freshSettings freshHeld hears finishes takesOne bodyLength isIdentity hasForm hasProgram furtherTests bodyOrder orderOf orderDoes isHeard isController isProgramChange takesProgramChange channelDoes messageDoes isFramed messageOrder
-computed = (refl, (refl, refl, refl), refl)
+unfolding inTurn numbers kindOf numberOf sizeOf hasSpare deviceOf applyOf storeRow numberBy numberFor nextFor rowOf table highestModel effectOf selections selected freshSettings freshHeld isPlayer playerOf editSlot hears finishes takesOne bodyLength isIdentity hasForm hasProgram furtherTests bodyOrder orderOf orderDoes isHeard isController isProgramChange takesProgramChange channelDoes messageDoes isFramed messageOrder
+computed = (refl, (refl, refl, refl), (refl, refl))
 
 -- Two sockets, lists and a panel message between bytes: every history of these calls finishes these messages in this order, answers so
 -- and leaves this.

@@ -16,14 +16,14 @@ use Rattle.framing.specs.Bytes.{stepOf}
 use Rattle.sockets.specs.Framer.{Happening, Nothing, Cut, Finished}
 use Rattle.sockets.specs.Calls.{Socket}
 use Rattle.sockets.specs.Box.{Lent, lent, took, happeningDoes, directDoes}
-use Rattle.sockets.specs.Promise.{happeningOf, socketNumber, socketOf, stepDoes, byteOf, directOf}
+use Rattle.sockets.specs.Promise.{happeningOf, socketOf, stepDoes, byteOf, directOf}
 use Rattle.sysex.specs.declared.Settings.{Settings}
 use Rattle.sysex.specs.declared.Answer.{Answer}
 use Rattle.sysex.specs.Forms.{longest}
 use Rattle.sysex.specs.Numbers.{answerLength}
 use Rattle.carrying.specs.Carrying.{Outcome, Left}
 use Rattle.podbox.specs.Whole.{bodyOf, messageOrder}
-use Rattle.podbox.specs.Box.{limit, takeTests, wholeTests, panel, Whole, plainAnswer, boxRules}
+use Rattle.podbox.specs.Box.{limit, takeTests, wholeTests, Whole, socketPlayer, plainAnswer, boxRules}
 use Rattle.demands.proofs.Tells.{Tells, order-tells, message-tells}
 use Rattle.cases.specs.ShutOut.{pod, promised, ShutOut, ShutOutWhole, Unwritten, leftBy, TellsUnwritten, TellsUnwrittenWhole}
 use Rattle.cases.proofs.ShutOut.{shut, shut-whole}
@@ -31,7 +31,7 @@ use Rattle.cases.proofs.ShutOut.{shut, shut-whole}
 happening-tells : (settings : Settings) (held : Held) (s : Socket) (h : Happening) → Tells (happeningDoes (boxRules pod settings) held s h)
 happening-tells settings held s Nothing = refl
 happening-tells settings held s Cut = refl
-happening-tells settings held s (Finished m) = message-tells (kindOf pod) settings (socketNumber s) held m
+happening-tells settings held s (Finished m) = message-tells (kindOf pod) settings (socketPlayer s) held m
 
 -- a call that is turned away tells none
 none-told : (k number : ℕ) → k < answerLength (plainAnswer number) → ⊥
@@ -83,6 +83,6 @@ pub unwritten-whole : ShutOutWhole TellsUnwrittenWhole
 unfolding directOf
 unwritten-whole =
     shut-whole TellsUnwrittenWhole (λ bad.
-    let (settings, message, held, k, call) = bad in
-    never-unwritten k (directDoes (boxRules pod settings) held (Whole message)) held (wholeTests pod settings held)
-    (order-tells (kindOf pod) settings panel held (messageOrder (kindOf pod) settings message) (bodyOf message)) call)
+    let (settings, player, message, held, k, call) = bad in
+    never-unwritten k (directDoes (boxRules pod settings) held (Whole player message)) held (wholeTests pod settings player held)
+    (order-tells (kindOf pod) settings (socketPlayer (socketOf player)) held (messageOrder (kindOf pod) settings message) (bodyOf message)) call)

@@ -88,9 +88,9 @@ module _ (kind : Kind) where
   abbrev pub heldWith : ℕ → ℕ → Held
   heldWith place byte = heldOf (set (zeros (memorySize kind)) place byte) ones
 
-  -- what a box that holds this is handed whole: the number, and the reply; and a fresh box
+  -- what a box that holds this is handed whole for player one: the number, and the reply; and a fresh box
   abbrev pub answerOn : Held → List ℕ → Left
-  answerOn held message = wholeOf (numberOf kind) freshSettings message held blank
+  answerOn held message = wholeOf (numberOf kind) freshSettings 0 message held blank
 
   abbrev pub handedOn : Held → List ℕ → List ℕ
   handedOn held message = answerNumber (answerOn held message .answer) ∷ []
@@ -111,7 +111,7 @@ byteWith kindNumber stored lent =
 
 -- and an empty message, and one with nothing lent at all
 abbrev pub handedWith : ℕ → Kind → List ℕ
-handedWith kindNumber lent = answerNumber (wholeOf kindNumber freshSettings [] (freshHeld lent) (blank lent) .answer) ∷ []
+handedWith kindNumber lent = answerNumber (wholeOf kindNumber freshSettings 0 [] (freshHeld lent) (blank lent) .answer) ∷ []
 
 abbrev pub nothingLent : ℕ → List ℕ
-nothingLent kindNumber = answerNumber (wholeOf kindNumber freshSettings [] (heldOf [] []) [] .answer) ∷ []
+nothingLent kindNumber = answerNumber (wholeOf kindNumber freshSettings 0 [] (heldOf [] []) [] .answer) ∷ []

@@ -5,6 +5,7 @@ use lib.ListN.{length, getD, take}
 use Rattle.kinds.specs.declared.Kind.{Kind}
 use Rattle.kinds.specs.declared.Kind.the-variants.{Pod, BassPod}
 use Rattle.kinds.specs.Kinds.{numberOf, sizeOf}
+use Rattle.programs.specs.declared.Player.the-variants as players
 use Rattle.programs.specs.Memory.{programPlace, editPlace, allSize}
 use Rattle.programs.specs.Held.{One, Edit, All}
 use Rattle.controls.specs.Applying.{applyOf}
@@ -40,7 +41,7 @@ at controller value place =
 abbrev pub last : ℕ → ℕ → List ℕ
 last program number =
     let held = heldOn BassPod (0xC0 ∷ number ∷ []) fresh (heldWith BassPod (programPlace BassPod program + 79) 7) (blank BassPod) (blank BassPod) in
-    getD (held .memory) (editPlace BassPod 0 + 79) 0 ∷ getD (held .memory) (programPlace BassPod program + 79) 0 ∷ []
+    getD (held .memory) (editPlace BassPod players.One + 79) 0 ∷ getD (held .memory) (programPlace BassPod program + 79) 0 ∷ []
 
 -- whole messages
 unfoldable pub forms : List Case

@@ -8,3 +8,4 @@ pub mod ShutOut
 pub mod Scenes
 pub mod Short
 pub mod Pro
+pub mod Duo

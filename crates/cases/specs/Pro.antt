@@ -77,8 +77,8 @@ forms =
     handed PodPro (ofLength PodPro All 5193) is (1 ∷ []) ∷
     handed PodPro (ofLength PodPro All 5194) is (10 ∷ []) ∷
     -- "an all programs dump is long only if all 36 marks are set"
-    repliedOn PodPro (heldOf (zeros 2664) (but 36 0)) (asked PodPro All) is ofLength PodPro All 5193 ∷
-    repliedOn PodPro (heldOf (zeros 2664) (but 35 0)) (asked PodPro All) is ofLength PodPro All 5121 ∷
+    repliedOn PodPro (heldOf (zeros 2736) (but 36 0)) (asked PodPro All) is ofLength PodPro All 5193 ∷
+    repliedOn PodPro (heldOf (zeros 2736) (but 35 0)) (asked PodPro All) is ofLength PodPro All 5121 ∷
     -- a Bass POD's is not ours, and a POD Pro's is not a Bass box's
     handed PodPro (ofLength BassPod (One 0x23) 170) is (11 ∷ []) ∷
     handed PodPro (ofLength BassPod Edit 169) is (11 ∷ []) ∷
@@ -181,7 +181,7 @@ storedAll =
     -- and a dump of all programs
     comesBack Pod All (dumpOfAll PodPro 72 31) is (1 ∷ (ones ++ dumpOfAll PodPro 72 31)) ∷
     comesBack PodPro All (dumpOfAll Pod 72 255) is (1 ∷ (ones ++ dumpOfAll Pod 72 255)) ∷
-    comesBack Pod All (dumpOfAll PodPro 71 31) is (1 ∷ (zeros 36 ++ (1 ∷ dumpOfAll PodPro 71 31))) ∷
+    comesBack Pod All (dumpOfAll PodPro 71 31) is (1 ∷ (zeros 36 ++ (1 ∷ 1 ∷ dumpOfAll PodPro 71 31))) ∷
     []
 
 unfoldable pub models : List Case

@@ -6,6 +6,7 @@ use Rattle.ground.specs.Lists.{written}
 use Rattle.kinds.specs.declared.Kind.{Kind}
 use Rattle.kinds.specs.declared.Kind.the-variants.{Pod, BassPod}
 use Rattle.kinds.specs.Kinds.{numberOf, sizeOf}
+use Rattle.programs.specs.declared.Player.the-variants as players
 use Rattle.programs.specs.Memory.{memorySize}
 use Rattle.programs.specs.Held.{Held, heldOf, Target, One, Edit, All}
 use Rattle.framing.specs.Receiver.{fresh, openedOf, holdingOf}
@@ -36,11 +37,11 @@ abbrev pub nines : Kind → List ℕ → Held
 nines kind marks = heldOf (replicate (memorySize kind) 9) marks
 
 abbrev pub risen : Kind → List ℕ → Held
-risen kind marks = heldOf (many 37 (rising (sizeOf kind))) marks
+risen kind marks = heldOf (many 38 (rising (sizeOf kind))) marks
 
 -- a Bass box with one such program, its first
 abbrev pub first : List ℕ → Held
-first marks = heldOf (rising 80 ++ zeros 2880) marks
+first marks = heldOf (rising 80 ++ zeros 2960) marks
 
 -- a number, and all that the box then holds
 abbrev pub leaving : ℕ → Held → List ℕ
@@ -71,11 +72,11 @@ byteLent kind socket marks reply =
     answerNumber (takeOf (numberOf kind) freshSettings socket fresh 0xF8 (blankHeld kind marks) (blank kind) (zeros reply) .answer) ∷ []
 
 abbrev pub wholeLent : Kind → List ℕ → ℕ → List ℕ → List ℕ
-wholeLent kind marks reply message = answerNumber (wholeOf (numberOf kind) freshSettings message (blankHeld kind marks) (zeros reply) .answer) ∷ []
+wholeLent kind marks reply message = answerNumber (wholeOf (numberOf kind) freshSettings 0 message (blankHeld kind marks) (zeros reply) .answer) ∷ []
 
 abbrev pub listLent : Kind → List ℕ → List ℕ
 listLent kind marks =
-    let l = movesOf (numberOf kind) freshSettings (move 12 5 ∷ []) (blankHeld kind marks) (zeros 1) in
+    let l = movesOf (numberOf kind) freshSettings 0 (move 12 5 ∷ []) (blankHeld kind marks) (zeros 1) in
     answerNumber (l .answer) ∷ (l .reply ++ l .held .marks)
 
 unfoldable pub lengths : List Case
@@ -111,41 +112,41 @@ lengths =
 unfoldable pub single : List Case
 single =
     -- "A short dump sets the spare byte to 0 and clears the mark": 71 bytes, then 0, and nothing else changes
-    told Pod (nines Pod ones) (dumped Pod (One 0) 71) is leaving 1 (heldOf (rising 71 ++ (0 ∷ replicate 2592 9)) (but 0 0)) ∷
-    told Pod (nines Pod ones) (dumped Pod (One 5) 71) is leaving 1 (heldOf (replicate 360 9 ++ (rising 71 ++ (0 ∷ replicate 2232 9))) (but 5 0)) ∷
-    told Pod (nines Pod ones) (dumped Pod (One 35) 71) is leaving 1 (heldOf (replicate 2520 9 ++ (rising 71 ++ (0 ∷ replicate 72 9))) (but 35 0)) ∷
-    told Pod (nines Pod ones) (dumped Pod Edit 71) is leaving 1 (heldOf (replicate 2592 9 ++ (rising 71 ++ (0 ∷ []))) (but 36 0)) ∷
-    -- by bytes, on either socket
-    toldByte 0 (nines Pod ones) (dumpBody Pod (One 5) (rising 71)) is leaving 1 (heldOf (replicate 360 9 ++ (rising 71 ++ (0 ∷ replicate 2232 9))) (but 5 0)) ∷
-    toldByte 1 (nines Pod ones) (dumpBody Pod Edit (rising 71)) is leaving 1 (heldOf (replicate 2592 9 ++ (rising 71 ++ (0 ∷ []))) (but 36 0)) ∷
+    told Pod (nines Pod ones) (dumped Pod (One 0) 71) is leaving 1 (heldOf (rising 71 ++ (0 ∷ replicate 2664 9)) (but 0 0)) ∷
+    told Pod (nines Pod ones) (dumped Pod (One 5) 71) is leaving 1 (heldOf (replicate 360 9 ++ (rising 71 ++ (0 ∷ replicate 2304 9))) (but 5 0)) ∷
+    told Pod (nines Pod ones) (dumped Pod (One 35) 71) is leaving 1 (heldOf (replicate 2520 9 ++ (rising 71 ++ (0 ∷ replicate 144 9))) (but 35 0)) ∷
+    told Pod (nines Pod ones) (dumped Pod Edit 71) is leaving 1 (heldOf (replicate 2592 9 ++ (rising 71 ++ (0 ∷ replicate 72 9))) (but 36 0)) ∷
+    -- by bytes, on either socket: each has its own edit buffer
+    toldByte 0 (nines Pod ones) (dumpBody Pod (One 5) (rising 71)) is leaving 1 (heldOf (replicate 360 9 ++ (rising 71 ++ (0 ∷ replicate 2304 9))) (but 5 0)) ∷
+    toldByte 1 (nines Pod ones) (dumpBody Pod Edit (rising 71)) is leaving 1 (heldOf (replicate 2664 9 ++ (rising 71 ++ (0 ∷ []))) (but 37 0)) ∷
     -- a long one sets the mark, and no other
-    told Pod (nines Pod (zeros 37)) (dumped Pod (One 5) 72) is leaving 1 (heldOf (replicate 360 9 ++ (rising 72 ++ replicate 2232 9)) (set (zeros 37) 5 1)) ∷
-    told Pod (nines Pod (zeros 37)) (dumped Pod Edit 72) is leaving 1 (heldOf (replicate 2592 9 ++ rising 72) (set (zeros 37) 36 1)) ∷
+    told Pod (nines Pod (zeros 38)) (dumped Pod (One 5) 72) is leaving 1 (heldOf (replicate 360 9 ++ (rising 72 ++ replicate 2304 9)) (set (zeros 38) 5 1)) ∷
+    told Pod (nines Pod (zeros 38)) (dumped Pod Edit 72) is leaving 1 (heldOf (replicate 2592 9 ++ (rising 72 ++ replicate 72 9)) (set (zeros 38) 36 1)) ∷
     -- a long one after a short one, and a short one after a long one
-    told Pod (after (nines Pod ones) (dumped Pod (One 0) 71)) (dumped Pod (One 0) 72) is leaving 1 (heldOf (rising 72 ++ replicate 2592 9) ones) ∷
+    told Pod (after (nines Pod ones) (dumped Pod (One 0) 71)) (dumped Pod (One 0) 72) is leaving 1 (heldOf (rising 72 ++ replicate 2664 9) ones) ∷
     after (after (nines Pod ones) (dumped Pod Edit 71)) (dumped Pod Edit 72) .marks is ones ∷
     after (after (nines Pod (but 5 0)) (dumped Pod (One 5) 72)) (dumped Pod (One 5) 71) .marks is but 5 0 ∷
     -- the request after it is answered by that very dump
     repliedOn Pod (after (nines Pod ones) (dumped Pod (One 5) 71)) (asked Pod (One 5)) is dumped Pod (One 5) 71 ∷
     repliedOn Pod (after (nines Pod ones) (dumped Pod Edit 71)) (asked Pod Edit) is dumped Pod Edit 71 ∷
-    repliedOn Pod (after (nines Pod (zeros 37)) (dumped Pod (One 5) 72)) (asked Pod (One 5)) is dumped Pod (One 5) 72 ∷
-    repliedOn Pod (after (nines Pod (zeros 37)) (dumped Pod Edit 72)) (asked Pod Edit) is dumped Pod Edit 72 ∷
+    repliedOn Pod (after (nines Pod (zeros 38)) (dumped Pod (One 5) 72)) (asked Pod (One 5)) is dumped Pod (One 5) 72 ∷
+    repliedOn Pod (after (nines Pod (zeros 38)) (dumped Pod Edit 72)) (asked Pod Edit) is dumped Pod Edit 72 ∷
     []
 
 unfoldable pub every : List Case
 every =
-    -- all programs: 36 marks, and the edit buffer's as it was
-    told Pod (nines Pod ones) (dumpedAll Pod 71) is leaving 1 (heldOf (many 36 (rising 71 ++ (0 ∷ [])) ++ replicate 72 9) (zeros 36 ++ (1 ∷ []))) ∷
-    told Pod (nines Pod (but 36 0)) (ofLength Pod All 5121) is leaving 1 (heldOf (zeros 2592 ++ replicate 72 9) (zeros 37)) ∷
-    told Pod (nines Pod (zeros 37)) (ofLength Pod All 5193) is leaving 1 (heldOf (zeros 2592 ++ replicate 72 9) (replicate 36 1 ++ (0 ∷ []))) ∷
-    told Pod (nines Pod (set (zeros 37) 36 1)) (ofLength Pod All 5193) is leaving 1 (heldOf (zeros 2592 ++ replicate 72 9) ones) ∷
+    -- all programs: 36 marks, and the edit buffers' as they were
+    told Pod (nines Pod ones) (dumpedAll Pod 71) is leaving 1 (heldOf (many 36 (rising 71 ++ (0 ∷ [])) ++ replicate 144 9) (zeros 36 ++ (1 ∷ 1 ∷ []))) ∷
+    told Pod (nines Pod (but 36 0)) (ofLength Pod All 5121) is leaving 1 (heldOf (zeros 2592 ++ replicate 144 9) (zeros 37 ++ (1 ∷ []))) ∷
+    told Pod (nines Pod (zeros 38)) (ofLength Pod All 5193) is leaving 1 (heldOf (zeros 2592 ++ replicate 144 9) (replicate 36 1 ++ (0 ∷ 0 ∷ []))) ∷
+    told Pod (nines Pod (set (zeros 38) 36 1)) (ofLength Pod All 5193) is leaving 1 (heldOf (zeros 2592 ++ replicate 144 9) (but 37 0)) ∷
     []
 
 unfoldable pub sent : List Case
 sent =
     -- the request after a dump of all programs
     repliedOn Pod (after (nines Pod ones) (ofLength Pod All 5121)) (asked Pod All) is ofLength Pod All 5121 ∷
-    repliedOn Pod (after (nines Pod (zeros 37)) (ofLength Pod All 5193)) (asked Pod All) is ofLength Pod All 5193 ∷
+    repliedOn Pod (after (nines Pod (zeros 38)) (ofLength Pod All 5193)) (asked Pod All) is ofLength Pod All 5193 ∷
     -- "Single dumps go out in the length their mark says": no other mark plays a part
     repliedOn Pod (risen Pod (but 5 0)) (asked Pod (One 4)) is dumped Pod (One 4) 72 ∷
     repliedOn Pod (risen Pod (but 5 0)) (asked Pod Edit) is dumped Pod Edit 72 ∷
@@ -174,7 +175,7 @@ kept =
     told Pod (nines Pod ones) (set (dumped Pod Edit 71) 149 0x10) is leaving 16 (nines Pod ones) ∷
     told Pod (nines Pod ones) (set (dumped Pod Edit 71) 7 1) is leaving 15 (nines Pod ones) ∷
     told Pod (nines Pod ones) (set (ofLength Pod All 5121) 5119 0x10) is leaving 16 (nines Pod ones) ∷
-    told Pod (nines Pod (zeros 37)) (set (dumped Pod (One 5) 72) 8 1) is leaving 15 (nines Pod (zeros 37)) ∷
+    told Pod (nines Pod (zeros 38)) (set (dumped Pod (One 5) 72) 8 1) is leaving 15 (nines Pod (zeros 38)) ∷
     toldByte 0 (nines Pod ones) (dumpBody Pod (One 0x24) (rising 71)) is leaving 14 (nines Pod ones) ∷
     -- "A controller leaves the mark as it was", and on a Bass box a program change does
     turned Pod 27 (blankHeld Pod ones) .marks is ones ∷
@@ -184,7 +185,7 @@ kept =
     changed Pod 1 (blankHeld Pod (but 36 0)) .marks is but 36 0 ∷
     changed BassPod 1 (first (but 36 0)) .marks is but 36 0 ∷
     changed BassPod 1 (first (but 0 0)) .marks is but 0 0 ∷
-    editAt BassPod (changed BassPod 1 (first (but 0 0))) (0 ∷ 79 ∷ []) is (100 ∷ 179 ∷ []) ∷
+    editAt BassPod players.One (changed BassPod 1 (first (but 0 0))) (0 ∷ 79 ∷ []) is (100 ∷ 179 ∷ []) ∷
     -- a list asks for no marks
     listLent Pod (but 36 0) is (0 ∷ 3 ∷ but 36 0) ∷
     listLent Pod (but 36 2) is (0 ∷ 3 ∷ but 36 2) ∷
@@ -193,18 +194,18 @@ kept =
     -- a Bass box sends long dumps whatever its marks, and writes none
     repliedOn BassPod (risen BassPod (but 5 0)) (asked BassPod (One 5)) is dumped BassPod (One 5) 80 ∷
     repliedOn BassPod (risen BassPod (but 36 0)) (asked BassPod Edit) is dumped BassPod Edit 80 ∷
-    told BassPod (nines BassPod (but 5 0)) (dumped BassPod (One 5) 80) is leaving 1 (heldOf (replicate 400 9 ++ (rising 80 ++ replicate 2480 9)) (but 5 0)) ∷
-    told BassPod (nines BassPod (zeros 37)) (dumped BassPod Edit 80) is leaving 1 (heldOf (replicate 2880 9 ++ rising 80) (zeros 37)) ∷
+    told BassPod (nines BassPod (but 5 0)) (dumped BassPod (One 5) 80) is leaving 1 (heldOf (replicate 400 9 ++ (rising 80 ++ replicate 2560 9)) (but 5 0)) ∷
+    told BassPod (nines BassPod (zeros 38)) (dumped BassPod Edit 80) is leaving 1 (heldOf (replicate 2880 9 ++ (rising 80 ++ replicate 80 9)) (zeros 38)) ∷
     repliedOn BassPod (risen BassPod (but 5 0)) (asked BassPod All) is dumpedAll BassPod 80 ∷
-    told BassPod (nines BassPod (zeros 37)) (ofLength BassPod All 5769) is leaving 1 (heldOf (zeros 2880 ++ replicate 80 9) (zeros 37)) ∷
+    told BassPod (nines BassPod (zeros 38)) (ofLength BassPod All 5769) is leaving 1 (heldOf (zeros 2880 ++ replicate 160 9) (zeros 38)) ∷
     []
 
 unfoldable pub lent : List Case
 lent =
     -- "too few marks lent is 30", "a mark neither 1 nor 0 is 32"; "More may be lent", and is not looked at
     byteLent Pod 0 ones 5193 is (0 ∷ []) ∷
-    byteLent Pod 0 (zeros 37) 5193 is (0 ∷ []) ∷
-    byteLent Pod 0 (replicate 36 1) 5193 is (30 ∷ []) ∷
+    byteLent Pod 0 (zeros 38) 5193 is (0 ∷ []) ∷
+    byteLent Pod 0 (replicate 37 1) 5193 is (30 ∷ []) ∷
     byteLent Pod 0 [] 5193 is (30 ∷ []) ∷
     byteLent Pod 0 (but 0 2) 5193 is (32 ∷ []) ∷
     byteLent Pod 0 (but 35 2) 5193 is (32 ∷ []) ∷
@@ -212,28 +213,28 @@ lent =
     byteLent Pod 0 (but 36 255) 5193 is (32 ∷ []) ∷
     byteLent Pod 0 (ones ++ (2 ∷ [])) 5193 is (0 ∷ []) ∷
     wholeLent Pod ones 5193 (asked Pod Edit) is (2 ∷ []) ∷
-    wholeLent Pod (zeros 37) 5193 (asked Pod Edit) is (2 ∷ []) ∷
-    wholeLent Pod (replicate 36 1) 5193 (asked Pod Edit) is (30 ∷ []) ∷
+    wholeLent Pod (zeros 38) 5193 (asked Pod Edit) is (2 ∷ []) ∷
+    wholeLent Pod (replicate 37 1) 5193 (asked Pod Edit) is (30 ∷ []) ∷
     wholeLent Pod (but 0 2) 5193 (asked Pod Edit) is (32 ∷ []) ∷
     wholeLent Pod (but 35 2) 5193 (asked Pod Edit) is (32 ∷ []) ∷
     wholeLent Pod (but 36 2) 5193 (asked Pod Edit) is (32 ∷ []) ∷
     wholeLent Pod (ones ++ (2 ∷ [])) 5193 (asked Pod Edit) is (2 ∷ []) ∷
-    told Pod (nines Pod (ones ++ (2 ∷ []))) (dumped Pod Edit 71) is leaving 1 (heldOf (replicate 2592 9 ++ (rising 71 ++ (0 ∷ []))) (but 36 0 ++ (2 ∷ []))) ∷
+    told Pod (nines Pod (ones ++ (2 ∷ []))) (dumped Pod Edit 71) is leaving 1 (heldOf (replicate 2592 9 ++ (rising 71 ++ (0 ∷ replicate 72 9))) (but 36 0 ++ (2 ∷ []))) ∷
     told Pod (nines Pod (but 36 2)) (dumped Pod Edit 71) is leaving 32 (nines Pod (but 36 2)) ∷
     -- in the same way on a Bass box
-    byteLent BassPod 0 (replicate 36 1) 5769 is (30 ∷ []) ∷
+    byteLent BassPod 0 (replicate 37 1) 5769 is (30 ∷ []) ∷
     byteLent BassPod 0 (but 0 2) 5769 is (32 ∷ []) ∷
     byteLent BassPod 0 (but 35 2) 5769 is (32 ∷ []) ∷
     byteLent BassPod 0 (but 36 2) 5769 is (32 ∷ []) ∷
     byteLent BassPod 0 (ones ++ (2 ∷ [])) 5769 is (0 ∷ []) ∷
-    wholeLent BassPod (replicate 36 1) 5769 (asked BassPod Edit) is (30 ∷ []) ∷
+    wholeLent BassPod (replicate 37 1) 5769 (asked BassPod Edit) is (30 ∷ []) ∷
     wholeLent BassPod (but 0 2) 5769 (asked BassPod Edit) is (32 ∷ []) ∷
     wholeLent BassPod (but 35 2) 5769 (asked BassPod Edit) is (32 ∷ []) ∷
     wholeLent BassPod (but 36 2) 5769 (asked BassPod Edit) is (32 ∷ []) ∷
     wholeLent BassPod (ones ++ (2 ∷ [])) 5769 (asked BassPod Edit) is (2 ∷ []) ∷
     -- 30, 31, 32, and then a message's own checks
     byteLent Pod 0 (but 0 2) 5192 is (30 ∷ []) ∷
-    byteLent Pod 2 (replicate 36 1) 5193 is (30 ∷ []) ∷
+    byteLent Pod 2 (replicate 37 1) 5193 is (30 ∷ []) ∷
     byteLent Pod 2 (but 0 2) 5193 is (31 ∷ []) ∷
     wholeLent Pod (but 0 2) 5192 (asked Pod Edit) is (30 ∷ []) ∷
     wholeLent Pod ones 5193 (zeros 5194) is (10 ∷ []) ∷

@@ -27,25 +27,25 @@ use Rattle.podbox.specs.Box.{Took, limit, takeTests, wholeTests, boxRules, take
 abbrev pub pod : ℕ
 pod = numberOf Pod
 
--- a box's call with one byte, by its settings, the socket, the byte and what is lent; and its call with a whole message
+-- a box's call with one byte, by its settings, the socket, the byte and what is lent; and its call with a whole message of a player, by his number
 abbrev pub ByteCall : Type 0
 ByteCall = Settings → ℕ → ℕ → Lent Held → Took
 
 abbrev pub WholeCall : Type 0
-WholeCall = Settings → List ℕ → Held → List ℕ → Left
+WholeCall = Settings → ℕ → List ℕ → Held → List ℕ → Left
 
 -- the calls that are promised, and a call that keeps its promise
 abbrev pub promised : ByteCall
 promised settings socket byte entry = takeOf pod settings socket (entry .receiver) byte (entry .held) (entry .receive) (entry .reply)
 
 abbrev pub promisedWhole : WholeCall
-promisedWhole settings message held reply = wholeOf pod settings message held reply
+promisedWhole settings player message held reply = wholeOf pod settings player message held reply
 
 abbrev pub Keeps : ByteCall → Type 0
 Keeps box = (settings : Settings) (socket byte : ℕ) (entry : Lent Held) → box settings socket byte entry ≡ promised settings socket byte entry
 
 abbrev pub KeepsWhole : WholeCall → Type 0
-KeepsWhole box = (settings : Settings) (message : List ℕ) (held : Held) (reply : List ℕ) → box settings message held reply ≡ promisedWhole settings message held reply
+KeepsWhole box = (settings : Settings) (player : ℕ) (message : List ℕ) (held : Held) (reply : List ℕ) → box settings player message held reply ≡ promisedWhole settings player message held reply
 
 -- whatever keeps the promise is no such box
 abbrev pub ShutOut : (ByteCall → Type 0) → Type 0
@@ -59,7 +59,7 @@ abbrev pub Always : ByteCall → (ℕ → Lent Held → Took → Type 0) → Typ
 Always box P = (settings : Settings) (socket byte : ℕ) (entry : Lent Held) → AllHold (takeTests pod settings socket entry) → P byte entry (box settings socket byte entry)
 
 abbrev pub AlwaysWhole : WholeCall → (Held → Left → Type 0) → Type 0
-AlwaysWhole box P = (settings : Settings) (message : List ℕ) (held : Held) (reply : List ℕ) → AllHold (wholeTests pod settings held reply) → P held (box settings message held reply)
+AlwaysWhole box P = (settings : Settings) (player : ℕ) (message : List ℕ) (held : Held) (reply : List ℕ) → AllHold (wholeTests pod settings player held reply) → P held (box settings player message held reply)
 
 -- a byte finishes a SysEx that is not too long, or a channel message
 abbrev pub EndsSysEx : Event → Type 0
@@ -118,4 +118,4 @@ TellsUnwritten box =
     × Unwritten k (λ reply. leftBy (box settings socket byte (lent receiver held receive reply)))
 
 abbrev pub TellsUnwrittenWhole : WholeCall → Type 0
-TellsUnwrittenWhole box = (settings : Settings) × (message : List ℕ) × (held : Held) × (k : ℕ) × Unwritten k (box settings message held)
+TellsUnwrittenWhole box = (settings : Settings) × (player : ℕ) × (message : List ℕ) × (held : Held) × (k : ℕ) × Unwritten k (box settings player message held)
