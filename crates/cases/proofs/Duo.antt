@@ -1,6 +1,8 @@
 -- The cases of two players are given.
 use mathlib.Core.List.{[]}
 use mathlib.Core.Path.{_≡_, refl, sym, ap, _∙_, subst}
+use native.Mathlib.Omega.{arith}
+use lib.ListN.{replicate}
 use Rattle.kinds.specs.declared.Kind.the-variants.{Pod}
 use Rattle.kinds.specs.Kinds.{isKind, kindOf, numberOf, sizeOf, hasSpare, deviceOf, identityOf, takesProgramChange, highestModel}
 use Rattle.programs.specs.Memory.{isPlayer, playerOf, editSlot}
@@ -14,23 +16,25 @@ use Rattle.framing.specs.Bytes.{stepOf}
 use Rattle.programs.specs.Held.{Held}
 use Rattle.sockets.specs.Framer.{Idle, hears}
 use Rattle.sockets.specs.Calls.{S0, finishes}
-use Rattle.sockets.specs.Box.{SaidsOf, finishedBy, heldAfter}
+use Rattle.sockets.specs.Box.{CallsOf, FinishesOf, SaidsOf, finishedBy, heldAfter}
 use Rattle.sockets.specs.Promise.{stepDoes, byteOf, directOf}
 use Rattle.sockets.specs.History.{WorldOf, History, saidsAlong}
 use Rattle.sockets.specs.Demand.{Fresh}
 use Rattle.sockets.specs.Players.{seenAfter}
-use Rattle.sysex.specs.Forms.{bodyLength, isIdentity, isOurChannel}
+use Rattle.sysex.specs.Forms.{longest, bodyLength, isIdentity, isOurChannel}
 use Rattle.sysex.specs.Judging.{hasForm, hasProgram, furtherTests, orderOf, bodyOrder, judgeOf}
 use Rattle.carrying.specs.Carrying.{orderDoes}
 use Rattle.podbox.specs.Settings.{isValid, areMarks, freshSettings, freshHeld}
 use Rattle.podbox.specs.Messages.{isHeard, isController, isProgramChange, channelDoes, messageDoes}
 use Rattle.podbox.specs.Whole.{isFramed, messageOrder}
 use Rattle.screen.specs.Screen.{screenOf}
+use Rattle.costerbloom.specs.Numbers.{memoryBack, backCall}
 use Rattle.demands.specs.Duo.{boxPlayers}
-use Rattle.demands.proofs.Sockets.{box-demand3}
+use Rattle.demands.specs.Moves.{Proper}
+use Rattle.demands.proofs.Sockets.{box-demand3, box-lives, fresh-is-sound}
 use Rattle.cases.specs.Case.{AllGiven}
 use Rattle.cases.specs.ShutOut.{pod, freshRules}
-use Rattle.cases.specs.Duo.{freshBox, controllers, changes, dumps, requests, shared, naming, orders, byte48, screens, duo, selecting, SaidThen, HeldThen, firstRun, secondRun, dumpFinished, knobsFinished, DumpThen, KnobsThen}
+use Rattle.cases.specs.Duo.{freshBox, controllers, changes, dumps, requests, shared, naming, orders, byte48, screens, duo, selecting, SaidThen, HeldThen, firstRun, secondRun, dumpFinished, knobsFinished, DumpThen, KnobsThen, freshWorld, TwoRuns}
 use Rattle.cases.proofs.Case.{both-given}
 
 fresh-box-given : AllGiven freshBox
@@ -58,11 +62,11 @@ unfolding shared isKind kindOf numberOf sizeOf hasSpare deviceOf identityOf take
 shared-given = refl
 
 naming-given : AllGiven naming
-unfolding naming isKind kindOf numberOf sizeOf hasSpare deviceOf identityOf takesProgramChange highestModel isPlayer playerOf editSlot withSpares withoutSpares applyOf storeRow backOf shownOf numberBy numberFor nextFor rowOf table effectOf selections selected freshSettings freshHeld soundOf isWritten countRight runningRight waitingRight longIsFull takesOne takesTwo stepOf stepDoes byteOf directOf bodyLength isIdentity isOurChannel hasForm hasProgram furtherTests bodyOrder orderOf judgeOf orderDoes isValid areMarks isHeard isController isProgramChange channelDoes messageDoes isFramed messageOrder screenOf
+unfolding naming backCall memoryBack isKind kindOf numberOf sizeOf hasSpare deviceOf identityOf takesProgramChange highestModel isPlayer playerOf editSlot withSpares withoutSpares applyOf storeRow backOf shownOf numberBy numberFor nextFor rowOf table effectOf selections selected freshSettings freshHeld soundOf isWritten countRight runningRight waitingRight longIsFull takesOne takesTwo stepOf stepDoes byteOf directOf bodyLength isIdentity isOurChannel hasForm hasProgram furtherTests bodyOrder orderOf judgeOf orderDoes isValid areMarks isHeard isController isProgramChange channelDoes messageDoes isFramed messageOrder screenOf
 naming-given = refl
 
 orders-given : AllGiven orders
-unfolding orders isKind kindOf numberOf sizeOf hasSpare deviceOf identityOf takesProgramChange highestModel isPlayer playerOf editSlot withSpares withoutSpares applyOf storeRow backOf shownOf numberBy numberFor nextFor rowOf table effectOf selections selected freshSettings freshHeld soundOf isWritten countRight runningRight waitingRight longIsFull takesOne takesTwo stepOf stepDoes byteOf directOf bodyLength isIdentity isOurChannel hasForm hasProgram furtherTests bodyOrder orderOf judgeOf orderDoes isValid areMarks isHeard isController isProgramChange channelDoes messageDoes isFramed messageOrder screenOf
+unfolding orders backCall memoryBack isKind kindOf numberOf sizeOf hasSpare deviceOf identityOf takesProgramChange highestModel isPlayer playerOf editSlot withSpares withoutSpares applyOf storeRow backOf shownOf numberBy numberFor nextFor rowOf table effectOf selections selected freshSettings freshHeld soundOf isWritten countRight runningRight waitingRight longIsFull takesOne takesTwo stepOf stepDoes byteOf directOf bodyLength isIdentity isOurChannel hasForm hasProgram furtherTests bodyOrder orderOf judgeOf orderDoes isValid areMarks isHeard isController isProgramChange channelDoes messageDoes isFramed messageOrder screenOf
 orders-given = refl
 
 byte-48-given : AllGiven byte48
@@ -93,15 +97,47 @@ as-they-select w v saids new e history =
     )
 
 -- player one sees the same of both runs
-pub seen-alike : seenAfter freshRules (boxPlayers pod freshSettings) S0 (λ s. Idle) [] firstRun ≡ seenAfter freshRules (boxPlayers pod freshSettings) S0 (λ s. Idle) [] secondRun
+seen-alike : seenAfter freshRules (boxPlayers pod freshSettings) S0 (λ s. Idle) [] firstRun ≡ seenAfter freshRules (boxPlayers pod freshSettings) S0 (λ s. Idle) [] secondRun
 unfolding kindOf numberOf sizeOf hasSpare deviceOf freshSettings hears takesOne bodyLength isIdentity hasForm hasProgram furtherTests bodyOrder orderOf judgeOf
 seen-alike = refl
 
 -- and yet they differ: in what they finish, and in player two's edit buffer and its mark
-pub finished-apart : (finishedBy freshRules (λ s. Idle) [] firstRun ≡ dumpFinished) × (finishedBy freshRules (λ s. Idle) [] secondRun ≡ knobsFinished)
+finished-apart : (finishedBy freshRules (λ s. Idle) [] firstRun ≡ dumpFinished) × (finishedBy freshRules (λ s. Idle) [] secondRun ≡ knobsFinished)
 unfolding dumpFinished knobsFinished kindOf numberOf sizeOf deviceOf hears finishes takesOne
 finished-apart = (refl, refl)
 
-pub left-apart : DumpThen (heldAfter freshRules (freshHeld Pod) dumpFinished) × KnobsThen (heldAfter freshRules (freshHeld Pod) knobsFinished)
+left-apart : DumpThen (heldAfter freshRules (freshHeld Pod) dumpFinished) × KnobsThen (heldAfter freshRules (freshHeld Pod) knobsFinished)
 unfolding dumpFinished knobsFinished kindOf numberOf sizeOf hasSpare deviceOf playerOf editSlot withSpares applyOf storeRow numberBy numberFor nextFor rowOf table highestModel effectOf selections selected freshSettings freshHeld bodyLength isIdentity hasForm hasProgram furtherTests bodyOrder orderOf judgeOf orderDoes isHeard isController channelDoes messageDoes
 left-apart = ((refl, refl), (refl, refl))
+
+-- the box turns none of their calls away
+lives : (calls : CallsOf freshRules) → Proper calls
+    → (v : WorldOf freshRules) × (saids : SaidsOf freshRules) × History freshRules freshWorld calls v saids
+unfolding kindOf numberOf sizeOf isKind isValid areMarks freshSettings freshHeld
+lives calls proper =
+    box-lives pod freshSettings refl refl (replicate (longest Pod) 0) (omega arith) freshWorld calls proper
+    (fresh-is-sound pod freshSettings freshWorld (λ s. refl)) (omega arith) (omega arith) refl (λ s. omega arith)
+
+-- A history of calls that finish these messages leaves what carrying them out leaves.
+left-by : {calls : CallsOf freshRules} {v : WorldOf freshRules} {saids : SaidsOf freshRules} {fs : FinishesOf freshRules} → History freshRules freshWorld calls v saids
+    → finishedBy freshRules (λ s. Idle) [] calls ≡ fs → heldAfter freshRules (freshHeld Pod) fs ≡ v .held
+left-by {calls} {v} {saids} history e =
+    let d = box-demand3 pod freshSettings freshWorld v calls saids (λ s. refl) history in
+    sym (d .held ∙ ap (heldAfter freshRules (freshHeld Pod)) (d .order ∙ e))
+
+-- Two runs as isolation has them, which really differ: player two sends an edit dump in one and turns knobs in the other.
+pub really-differ : TwoRuns
+really-differ =
+    let one = lives firstRun tt in
+    let two = lives secondRun tt in
+    record {
+      v = one .0;
+      v′ = two .0;
+      saids = one .1;
+      saids′ = two .1;
+      first = one .2;
+      second = two .2;
+      alike = seen-alike;
+      dumped = subst DumpThen (left-by (one .2) (finished-apart .0)) (left-apart .0);
+      turned = subst KnobsThen (left-by (two .2) (finished-apart .1)) (left-apart .1);
+    }

@@ -4,21 +4,22 @@ use mathlib.Core.List.{List, [], _∷_, _++_, map}
 use mathlib.Core.Path.{_≡_}
 use lib.ListN.{length, getD, replicate, set, take, drop}
 use Rattle.ground.specs.Lists.{written}
-use Rattle.ground.specs.Tests.{tested}
 use Rattle.kinds.specs.declared.Kind.{Kind}
 use Rattle.kinds.specs.declared.Kind.the-variants.{Pod, BassPod, PodPro}
 use Rattle.kinds.specs.Kinds.{numberOf}
 use Rattle.programs.specs.declared.Player.the-variants as players
-use Rattle.programs.specs.Memory.{playerOf}
-use Rattle.programs.specs.Held.{Held, heldOf, One, Edit, All, bytesIn}
+use Rattle.programs.specs.Held.{Held, heldOf, One, Edit, All}
+use Rattle.controls.specs.Answers.{refusalOf, valueOf}
 use Rattle.framing.specs.declared.Receiver.{Receiver}
-use Rattle.framing.specs.Receiver.{underOf, holdingOf, openedOf}
-use Rattle.sockets.specs.Framer.{SysEx, Channel}
+use Rattle.framing.specs.Receiver.{fresh, underOf, holdingOf, openedOf}
+use Rattle.sockets.specs.Framer.{SysEx, Channel, Idle}
 use Rattle.sockets.specs.Calls.{S0, S1, Call, Byte, Finish, FromSocket, feed}
-use Rattle.sockets.specs.Box.{Said}
+use Rattle.sockets.specs.Box.{Said, SaidsOf}
+use Rattle.sockets.specs.History.{WorldOf, History}
+use Rattle.sockets.specs.Players.{seenAfter}
 use Rattle.sysex.specs.declared.Settings.{Settings}
 use Rattle.sysex.specs.declared.Answer.{Answer}
-use Rattle.sysex.specs.Forms.{requestBody, dumpBody, identityBody, ended}
+use Rattle.sysex.specs.Forms.{longest, requestBody, dumpBody, identityBody, ended}
 use Rattle.sysex.specs.Numbers.{answerNumber, answerLength}
 use Rattle.carrying.specs.Carrying.{Left}
 use Rattle.podbox.specs.declared.Move.{Move}
@@ -26,9 +27,11 @@ use Rattle.podbox.specs.Settings.{freshSettings, freshHeld}
 use Rattle.podbox.specs.Box.{Given, Delivered, Took, noted, takeOf, wholeOf, movesOf}
 use Rattle.screen.specs.Parts.{Slice}
 use Rattle.screen.specs.Screen.{screenOf}
-use Rattle.demands.specs.Order.{showingTests}
+use Rattle.costerbloom.specs.Numbers.{backCall}
+use Rattle.demands.specs.Duo.{boxPlayers}
+use Rattle.cases.specs.ShutOut.{pod, freshRules}
 use Rattle.cases.specs.Case.{Case, _is_}
-use Rattle.cases.specs.Asking.{zeros, ones, but, rising, blank, ofLength, asked, shown, with}
+use Rattle.cases.specs.Asking.{zeros, ones, but, rising, blank, ofLength, asked, with}
 use Rattle.cases.specs.Scenes.{move, channel16, editAt}
 use Rattle.cases.specs.Short.{dumped, first, nines, leaving, toldByte, byteLent, wholeLent}
 
@@ -84,7 +87,7 @@ sentTo player held message = let l = handedTo player held message in take (answe
 abbrev pub named : (ℕ → ℕ) → List ℕ
 named number = map number (0 ∷ 1 ∷ 2 ∷ 255 ∷ 256 ∷ 4294967295 ∷ [])
 
--- that of a message to a fresh POD, of a list, and of a value shown back, 0 where there is no refusal: by demand 2's words, the first test that fails
+-- that of a message to a fresh POD, of a list, and of a value shown back, 0 where there is no refusal
 abbrev pub handedBy : List ℕ → List ℕ
 handedBy message = named (λ (player : ℕ). answerNumber (handedTo player (freshHeld Pod) message .answer))
 
@@ -92,7 +95,7 @@ abbrev pub listedBy : Kind → List Move → List ℕ
 listedBy kind moves = named (λ (player : ℕ). answerNumber (movesOf (numberOf kind) freshSettings player moves (freshHeld kind) (zeros 1) .answer))
 
 abbrev pub backNumber : ℕ → ℕ → ℕ → List ℕ → ℕ
-backNumber kindNumber player controller memory = tested (showingTests kindNumber player controller memory) (λ (number : ℕ). number) 0
+backNumber kindNumber player controller memory = refusalOf (backCall kindNumber player controller memory)
 
 abbrev pub shownBy : Kind → ℕ → List ℕ
 shownBy kind controller = named (λ (player : ℕ). backNumber (numberOf kind) player controller (freshHeld kind .memory))
@@ -111,7 +114,7 @@ backWith kindNumber player controller memory = backNumber kindNumber player cont
 
 -- a value shown back of a player's edit buffer: the refusal number, and the value
 abbrev pub shownOn : ℕ → ℕ → Held → List ℕ
-shownOn player controller held = shown Pod controller (bytesIn Pod (playerOf player) Edit held)
+shownOn player controller held = let r = backCall (numberOf Pod) player controller (held .memory) in refusalOf r ∷ valueOf r ∷ []
 
 -- a slice that begins at a place of a block of memory; and what the screen is handed: the number, the block, the place, and the bytes
 abbrev pub sliceAt : ℕ → ℕ → List ℕ → Slice
@@ -395,3 +398,19 @@ DumpThen held = (editAt Pod players.Two held (8 ∷ 9 ∷ []) ≡ 108 ∷ 109 �
 
 abbrev pub KnobsThen : Held → Type 0
 KnobsThen held = (editAt Pod players.Two held (8 ∷ 9 ∷ []) ≡ 5 ∷ 63 ∷ []) × (held .marks ≡ ones)
+
+-- a fresh box, with room for the longest message on each socket
+abbrev pub freshWorld : WorldOf freshRules
+freshWorld = record { held = freshHeld Pod; receiver = λ s. fresh; receive = λ s. replicate (longest Pod) 0 }
+
+-- both runs exist, player one sees the same of them, and they leave player two's edit buffer and its mark apart
+pub record TwoRuns : Type 0 where
+  pub v : WorldOf freshRules
+  pub v′ : WorldOf freshRules
+  pub saids : SaidsOf freshRules
+  pub saids′ : SaidsOf freshRules
+  pub first : History freshRules freshWorld firstRun v saids
+  pub second : History freshRules freshWorld secondRun v′ saids′
+  pub alike : seenAfter freshRules (boxPlayers pod freshSettings) S0 (λ s. Idle) [] firstRun ≡ seenAfter freshRules (boxPlayers pod freshSettings) S0 (λ s. Idle) [] secondRun
+  pub dumped : DumpThen (v .held)
+  pub turned : KnobsThen (v′ .held)
