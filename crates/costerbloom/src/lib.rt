@@ -195,8 +195,8 @@ fn amp(model: u32, kind: u32) -> Reading
     Reading::Refused(32)
 }
 
-// What the screen shows, for the place that C lends for it: no exported function may return a reference. `part` holds a
-// valid part before the call, as that of no programs at all.
+// What the screen shows, written where C lends a place for it: no exported function may return a reference. The place holds
+// a valid part before the call, as `{ programs, 0 }`.
 #[no_mangle]
 pub extern "C" fn costerbloom_screen<'a>(
     part: &mut &'a [u8],
