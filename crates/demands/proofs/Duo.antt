@@ -2,7 +2,7 @@
 use Prim.Native.Nat.{ℕ}
 use mathlib.Core.Bool.{Bool, true, false, true≢false}
 use mathlib.Core.List.{List, [], _∷_}
-use mathlib.Core.Logic.{inl, inr}
+use mathlib.Core.Logic.{inl, inr, _↔_}
 use mathlib.Core.Path.{_≡_, refl, sym, ap, subst, _∙_}
 use native.Mathlib.Omega.{arith}
 use lib.Dec.{leb}
@@ -12,10 +12,10 @@ use Rattle.kinds.specs.declared.Kind.{Kind}
 use Rattle.kinds.specs.Kinds.{kindOf}
 use Rattle.programs.specs.declared.Player.{Player}
 use Rattle.programs.specs.Memory.{playerOf, editSlot, memorySize, markCount, partOf}
-use Rattle.programs.specs.Held.{Held, heldOf, Edit}
+use Rattle.programs.specs.Held.{Held, heldOf, Target, One, Edit, All}
 use Rattle.framing.specs.declared.Receiver.{Receiver}
 use Rattle.framing.specs.Bytes.{stepOf}
-use Rattle.sockets.specs.Framer.{Happening, Nothing, Cut, Finished, Framer, Idle}
+use Rattle.sockets.specs.Framer.{Message, SysEx, TooLong, Channel, Happening, Nothing, Cut, Finished, Framer, Idle}
 use Rattle.sockets.specs.Calls.{Socket, S0, S1, Byte, Direct, Finish, FromSocket, FromDirect, ifSame, handing}
 use Rattle.sockets.specs.Box.{LeftOf, CallsOf, SaidsOf, saidOf, heldAfter, finishedBy, happeningDoes}
 use Rattle.sockets.specs.Promise.{happeningOf, socketNumber, socketOf, stepDoes}
@@ -25,12 +25,17 @@ use Rattle.sockets.proofs.Contract.{byte-passed, direct-passed}
 use Rattle.sockets.proofs.TwoPlayers.{TwoPlayers, AllOf, isOf}
 use Rattle.sockets.proofs.Unnoticed.{unnoticed}
 use Rattle.sysex.specs.declared.Settings.{Settings}
+use Rattle.sysex.specs.declared.Order.{Order}
+use Rattle.sysex.specs.Judging.{judgeOf}
+use Rattle.sysex.specs.Formats.{Meant, identity, asked, dumped, unsaid, storeOrder}
 use Rattle.carrying.specs.Carrying.{Outcome}
+use Rattle.carrying.proofs.Understands.{meant}
 use Rattle.podbox.specs.declared.Move.{Move}
 use Rattle.podbox.specs.Whole.{messageOrder, handedDoes}
 use Rattle.podbox.specs.Box.{limit, socketPlayer, Given, Whole, Moves, Delivered, FromPanel, FromList, handsOf, Took, boxRules, takeOf, wholeOf, movesOf}
 use Rattle.podbox.proofs.Taking.{sender}
-use Rattle.demands.specs.Duo.{editIn, programsIn, storesPrograms, messageStores, names, senderOf, boxPlayers}
+use Rattle.demands.specs.Duo.{editIn, programsIn, storesPrograms, messageStores, OfPrograms, IsProgramDump, names, senderOf, boxPlayers}
+use Rattle.demands.proofs.Accepts.{dump-judged}
 use Rattle.demands.proofs.Named.{Firm, writeIn, write-named, write-firm, write-programs, write-beside, edit-programs, edit-beside}
 use Rattle.demands.proofs.Acts.{Effect, rests, edits, stores, Acts, message-acts, handed-acts}
 use Rattle.demands.proofs.Passed.{take-cases, whole-cases}
@@ -117,6 +122,39 @@ other-player S0 S0 e same = true≢false e
 other-player S0 S1 e same = let slots = ap editSlot same in omega arith
 other-player S1 S0 e same = let slots = ap editSlot same in omega arith
 other-player S1 S1 e same = true≢false e
+
+-- What isolation takes for a dump of programs is one, and every one that is right.
+module _ (kind : Kind) (settings : Settings) where
+  order-stores : (body : List ℕ) (o : Order) → Meant kind settings body o → storesPrograms o ≡ true → IsProgramDump kind (SysEx body)
+  order-stores body o (identity channel i) e = absurd (true≢false (sym e))
+  order-stores body o (asked (One p) q) e = absurd (true≢false (sym e))
+  order-stores body o (asked Edit q) e = absurd (true≢false (sym e))
+  order-stores body o (asked All q) e = absurd (true≢false (sym e))
+  order-stores body o (dumped (One p) d) e = (One p, tt, _, _, d)
+  order-stores body o (dumped Edit d) e = absurd (true≢false (sym e))
+  order-stores body o (dumped All d) e = (All, tt, _, _, d)
+  order-stores body o (unsaid check) e = absurd (true≢false (sym e))
+
+  dump-stores : (t : Target) → OfPrograms t → storesPrograms (storeOrder t) ≡ true
+  dump-stores (One p) h = refl
+  dump-stores Edit h = absurd h
+  dump-stores All h = refl
+
+  pub stores-exactly : (m : Message) → (messageStores kind settings m ≡ true) ↔ IsProgramDump kind m
+  stores-exactly (SysEx body) = (
+    order-stores body (judgeOf kind settings body) (meant kind settings body),
+    (λ p.
+        let d = p .4 in
+        let judged = ap (judgeOf kind settings) (d .form) ∙ dump-judged kind settings (p .3) (d .whole-bytes) (p .2) (d .spare) (p .0) (d .there) (d .count) in
+        ap storesPrograms judged ∙ dump-stores (p .0) (p .1)),
+  )
+  stores-exactly TooLong = ((λ e. true≢false (sym e)), (λ none. absurd none))
+  stores-exactly (Channel status first second) = ((λ e. true≢false (sym e)), (λ none. absurd none))
+
+-- A call that names a player is that player's.
+pub names-own : (s : Socket) → ((message : List ℕ) → names s (Whole (socketNumber s) message) ≡ true) × ((moves : List Move) → names s (Moves (socketNumber s) moves) ≡ true)
+names-own S0 = ((λ _. refl), (λ _. refl))
+names-own S1 = ((λ _. refl), (λ _. refl))
 
 module _ (kindNumber : ℕ) (settings : Settings) where
   -- whether a finished message stores programs, and what it does

@@ -1,11 +1,12 @@
 -- Req 08, "Two players, one set of programs": what the players of this box share, what is each one's own, and whose a message is.
 use Prim.Native.Nat.{ℕ}
 use mathlib.Core.Bool.{Bool, true, false}
+use mathlib.Core.List.{List}
 use Rattle.kinds.specs.declared.Kind.{Kind}
 use Rattle.kinds.specs.Kinds.{kindOf}
 use Rattle.programs.specs.declared.Player.{Player}
 use Rattle.programs.specs.Memory.{programCount, allSize, partOf}
-use Rattle.programs.specs.Held.{Held, heldOf, Target, Edit, bytesIn, slotFor, slotsFor}
+use Rattle.programs.specs.Held.{Held, heldOf, Target, One, Edit, All, bytesIn, slotFor, slotsFor}
 use Rattle.sockets.specs.Framer.{Message, SysEx, TooLong, Channel}
 use Rattle.sockets.specs.Calls.{Socket, Finish, FromSocket, FromDirect, ifSame}
 use Rattle.sockets.specs.Promise.{socketOf}
@@ -14,6 +15,7 @@ use Rattle.sysex.specs.declared.Settings.{Settings}
 use Rattle.sysex.specs.declared.Order.{Order}
 use Rattle.sysex.specs.declared.Order.the-variants as order
 use Rattle.sysex.specs.Judging.{judgeOf}
+use Rattle.sysex.specs.Formats.{IsDump}
 use Rattle.podbox.specs.Box.{socketPlayer, Given, Whole, Moves, Delivered, FromPanel, FromList, boxRules}
 
 -- what a dump or a request of a player names, with its marks
@@ -43,6 +45,17 @@ abbrev pub messageStores : Kind → Settings → Message → Bool
 messageStores kind settings (SysEx body) = storesPrograms (judgeOf kind settings body)
 messageStores kind settings TooLong = false
 messageStores kind settings (Channel status first second) = false
+
+-- the same said as a format: a dump of a program, or of all of them
+abbrev pub OfPrograms : Target → Type 0
+OfPrograms (One p) = Unit {0}
+OfPrograms Edit = ⊥
+OfPrograms All = Unit {0}
+
+abbrev pub IsProgramDump : Kind → Message → Type 0
+IsProgramDump kind (SysEx body) = (t : Target) × OfPrograms t × (long : Bool) × (bytes : List ℕ) × IsDump kind t long bytes body
+IsProgramDump kind TooLong = ⊥
+IsProgramDump kind (Channel status first second) = ⊥
 
 -- "a panel message, a move list .. name their player"
 abbrev pub names : Socket → Given → Bool
