@@ -34,7 +34,7 @@ use Rattle.podbox.specs.declared.Move.{Move}
 use Rattle.podbox.specs.Whole.{messageOrder, handedDoes}
 use Rattle.podbox.specs.Box.{limit, socketPlayer, Given, Whole, Moves, Delivered, FromPanel, FromList, handsOf, Took, boxRules, takeOf, wholeOf, movesOf}
 use Rattle.podbox.proofs.Taking.{sender}
-use Rattle.demands.specs.Duo.{editIn, programsIn, storesPrograms, messageStores, OfPrograms, IsProgramDump, names, senderOf, boxPlayers}
+use Rattle.demands.specs.Duo.{editIn, programsIn, storesPrograms, messageStores, OfPrograms, IsProgramDump, names, boxPlayers}
 use Rattle.demands.proofs.Accepts.{dump-judged}
 use Rattle.demands.proofs.Named.{Firm, writeIn, write-named, write-firm, write-programs, write-beside, edit-programs, edit-beside}
 use Rattle.demands.proofs.Acts.{Effect, rests, edits, stores, Acts, message-acts, handed-acts}
@@ -102,6 +102,12 @@ module _ (kind : Kind) (player : Player) {storing : Bool} {Does : Held → Outco
             let e = does b g in
             ap (editIn kind player) (d .0) ∙ write-beside kind player a f t h (new (programsIn kind a)) (d .1) player ∙ own
             ∙ sym (ap (editIn kind player) (e .0) ∙ write-beside kind player b g t h (new (programsIn kind b)) (e .1) player)
+
+-- whose a finished message is
+abbrev senderOf : Finish Delivered → Socket
+senderOf (FromSocket s m) = s
+senderOf (FromDirect (FromPanel s message)) = s
+senderOf (FromDirect (FromList s m)) = s
 
 -- a socket is one player's, and no other's
 same-socket : (p s : Socket) → ifSame p s true false ≡ true → s ≡ p

@@ -1,4 +1,4 @@
--- Req 08, "Two players, one set of programs": what the players of this box share, what is each one's own, and whose a message is.
+-- Req 08, "Two players, one set of programs": what the players of this box share, what is each one's own, which dumps store programs, and whose a direct call is.
 use Prim.Native.Nat.{ℕ}
 use mathlib.Core.Bool.{Bool, true, false}
 use mathlib.Core.List.{List}
@@ -8,7 +8,7 @@ use Rattle.programs.specs.declared.Player.{Player}
 use Rattle.programs.specs.Memory.{programCount, allSize, partOf}
 use Rattle.programs.specs.Held.{Held, heldOf, Target, One, Edit, All, bytesIn, slotFor, slotsFor}
 use Rattle.sockets.specs.Framer.{Message, SysEx, TooLong, Channel}
-use Rattle.sockets.specs.Calls.{Socket, Finish, FromSocket, FromDirect, ifSame}
+use Rattle.sockets.specs.Calls.{Socket, ifSame}
 use Rattle.sockets.specs.Promise.{socketOf}
 use Rattle.sockets.specs.Players.{Players}
 use Rattle.sysex.specs.declared.Settings.{Settings}
@@ -16,7 +16,7 @@ use Rattle.sysex.specs.declared.Order.{Order}
 use Rattle.sysex.specs.declared.Order.the-variants as order
 use Rattle.sysex.specs.Judging.{judgeOf}
 use Rattle.sysex.specs.Formats.{IsDump}
-use Rattle.podbox.specs.Box.{socketPlayer, Given, Whole, Moves, Delivered, FromPanel, FromList, boxRules}
+use Rattle.podbox.specs.Box.{socketPlayer, Given, Whole, Moves, boxRules}
 
 -- what a dump or a request of a player names, with its marks
 abbrev pub namedIn : Kind → Player → Target → Held → Held
@@ -61,12 +61,6 @@ IsProgramDump kind (Channel status first second) = ⊥
 abbrev pub names : Socket → Given → Bool
 names s (Whole playerNumber message) = ifSame s (socketOf playerNumber) true false
 names s (Moves playerNumber moves) = ifSame s (socketOf playerNumber) true false
-
--- whose a finished message is
-abbrev pub senderOf : Finish Delivered → Socket
-senderOf (FromSocket s m) = s
-senderOf (FromDirect (FromPanel s message)) = s
-senderOf (FromDirect (FromList s m)) = s
 
 -- the players of a box, a socket's each
 abbrev pub boxPlayers : (kindNumber : ℕ) (settings : Settings) → Players (boxRules kindNumber settings)
