@@ -135,9 +135,9 @@ really-differ =
       v′ = two .0;
       saids = one .1;
       saids′ = two .1;
-      first = one .2;
-      second = two .2;
+      first-run = one .2;
+      second-run = two .2;
       alike = seen-alike;
-      dumped = subst DumpThen (left-by (one .2) (finished-apart .0)) (left-apart .0);
-      turned = subst KnobsThen (left-by (two .2) (finished-apart .1)) (left-apart .1);
+      dump-left = subst DumpThen (left-by (one .2) (finished-apart .0)) (left-apart .0);
+      knobs-left = subst KnobsThen (left-by (two .2) (finished-apart .1)) (left-apart .1);
     }

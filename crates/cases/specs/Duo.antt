@@ -94,11 +94,11 @@ handedBy message = named (λ (player : ℕ). answerNumber (handedTo player (fres
 abbrev pub listedBy : Kind → List Move → List ℕ
 listedBy kind moves = named (λ (player : ℕ). answerNumber (movesOf (numberOf kind) freshSettings player moves (freshHeld kind) (zeros 1) .answer))
 
-abbrev pub backNumber : ℕ → ℕ → ℕ → List ℕ → ℕ
-backNumber kindNumber player controller memory = refusalOf (backCall kindNumber player controller memory)
+abbrev pub backRefusal : ℕ → ℕ → ℕ → List ℕ → ℕ
+backRefusal kindNumber player controller memory = refusalOf (backCall kindNumber player controller memory)
 
 abbrev pub shownBy : Kind → ℕ → List ℕ
-shownBy kind controller = named (λ (player : ℕ). backNumber (numberOf kind) player controller (freshHeld kind .memory))
+shownBy kind controller = named (λ (player : ℕ). backRefusal (numberOf kind) player controller (freshHeld kind .memory))
 
 -- the numbers where a call brings this kind, settings and player, and is lent so much: of a whole message, of a list of moves, and of a value shown back
 abbrev pub wholeWith : ℕ → Settings → ℕ → ℕ → List ℕ → ℕ → List ℕ → List ℕ
@@ -110,7 +110,7 @@ listWith count kindNumber settings player memory numbers =
     answerNumber (movesOf kindNumber settings player (replicate count (move 12 5)) (heldOf (zeros memory) []) (zeros numbers) .answer) ∷ []
 
 abbrev pub backWith : ℕ → ℕ → ℕ → List ℕ → List ℕ
-backWith kindNumber player controller memory = backNumber kindNumber player controller memory ∷ []
+backWith kindNumber player controller memory = backRefusal kindNumber player controller memory ∷ []
 
 -- a value shown back of a player's edit buffer: the refusal number, and the value
 abbrev pub shownOn : ℕ → ℕ → Held → List ℕ
@@ -302,7 +302,7 @@ orders =
     shownOn 1 12 (buffers (with Pod 8 27) (with Pod 8 5) ones) is (0 ∷ 5 ∷ []) ∷
     shownOn 0 12 (buffers (with Pod 8 27) (with Pod 8 28) ones) is (0 ∷ 27 ∷ []) ∷
     shownOn 1 12 (buffers (with Pod 8 27) (with Pod 8 28) ones) is (40 ∷ 0 ∷ []) ∷
-    -- and 19 by his byte 46: rotary in player one's, flanger in player two's
+    -- and 19 by that player's byte 46: rotary in player one's, flanger in player two's
     backWith 0 0 55 (buffers (with Pod 46 2) (with Pod 46 1) ones .memory) is (0 ∷ []) ∷
     backWith 0 1 55 (buffers (with Pod 46 2) (with Pod 46 1) ones .memory) is (19 ∷ []) ∷
     []
@@ -370,7 +370,7 @@ SaidThen saids = noted saids ≡ 0 ∷ 0 ∷ 0 ∷ 0 ∷ 3 ∷ 3 ∷ 0 ∷ 0 ∷
 abbrev pub HeldThen : Held → Type 0
 HeldThen held = (editAt Pod players.One held (46 ∷ 48 ∷ []) ≡ 2 ∷ 1 ∷ []) × (editAt Pod players.Two held (46 ∷ 48 ∷ []) ≡ 1 ∷ 0 ∷ [])
 
--- Two runs of one fresh box in which player one sends the same bytes, a controller and a request for his edit buffer. Player two sends an edit dump in the first and
+-- Two runs of one fresh box in which player one sends the same bytes, a controller and a request for the own edit buffer. Player two sends an edit dump in the first and
 -- turns knobs in the second, at other places among player one's bytes; no dump of programs is finished.
 abbrev pub sentDump : List ℕ
 sentDump = dumped Pod Edit 71
@@ -409,8 +409,8 @@ pub record TwoRuns : Type 0 where
   pub v′ : WorldOf freshRules
   pub saids : SaidsOf freshRules
   pub saids′ : SaidsOf freshRules
-  pub first : History freshRules freshWorld firstRun v saids
-  pub second : History freshRules freshWorld secondRun v′ saids′
+  pub first-run : History freshRules freshWorld firstRun v saids
+  pub second-run : History freshRules freshWorld secondRun v′ saids′
   pub alike : seenAfter freshRules (boxPlayers pod freshSettings) S0 (λ s. Idle) [] firstRun ≡ seenAfter freshRules (boxPlayers pod freshSettings) S0 (λ s. Idle) [] secondRun
-  pub dumped : DumpThen (v .held)
-  pub turned : KnobsThen (v′ .held)
+  pub dump-left : DumpThen (v .held)
+  pub knobs-left : KnobsThen (v′ .held)

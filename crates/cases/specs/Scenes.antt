@@ -88,8 +88,8 @@ scenes =
     answeredWith 0 1 freshSettings 3040 0 is (0 ∷ []) ∷
     []
 
--- Controller 12 on both sockets, each in two parts, with lists and a panel message between: byte 8 of a player's edit buffer goes by the order of his last bytes
--- and of the calls that name him.
+-- Controller 12 on both sockets, each in two parts, with lists and a panel message between: byte 8 of a player's edit buffer goes by the order of that
+-- player's last bytes and of the calls that name that player.
 abbrev pub between : List (Call Given)
 between =
     Byte S0 0xB0 ∷ Byte S0 12 ∷ Byte S1 0xB0 ∷ Byte S1 12 ∷ Direct (Moves 0 (move 12 3 ∷ move 19 5 ∷ [])) ∷ Byte S1 7

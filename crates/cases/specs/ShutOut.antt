@@ -27,7 +27,7 @@ use Rattle.podbox.specs.Box.{Took, limit, takeTests, wholeTests, boxRules, take
 abbrev pub pod : ℕ
 pod = numberOf Pod
 
--- a box's call with one byte, by its settings, the socket, the byte and what is lent; and its call with a whole message of a player, by his number
+-- a box's call with one byte, by its settings, the socket, the byte and what is lent; and its call with a whole message of a player, by the player's number
 abbrev pub ByteCall : Type 0
 ByteCall = Settings → ℕ → ℕ → Lent Held → Took
 

@@ -5,7 +5,7 @@ use mathlib.Core.List.{List, []}
 use mathlib.Core.Logic.{_⊎_, ⊎-elim}
 use mathlib.Core.Path.{_≡_, refl, sym, ap, subst, _∙_}
 use native.Mathlib.Omega.{arith}
-use lib.ListN.{length, drop, replicate, length-take, length-drop, length-replicate}
+use lib.ListN.{length, drop, replicate, length-replicate}
 use Rattle.ground.specs.Tests.{AllHold}
 use Rattle.ground.specs.Calls.{outcome}
 use Rattle.ground.proofs.Tests.{by}
@@ -14,11 +14,10 @@ use Rattle.halves.specs.HalfBytes.{join}
 use Rattle.kinds.specs.declared.Kind.{Kind}
 use Rattle.kinds.specs.Kinds.{sizeOf, hasSpare}
 use Rattle.programs.specs.declared.Player.{Player}
-use Rattle.programs.specs.Memory.{programCount, lastProgram, editSlot, partOf, putPart}
+use Rattle.programs.specs.Memory.{programCount, editSlot, partOf, putPart}
 use Rattle.programs.specs.Spares.{allSet, withoutSpares}
 use Rattle.programs.specs.Held.{Held, heldOf, Target, One, Edit, All, slotFor, slotsFor, bytesIn, putIn, received, storeIn}
 use Rattle.programs.proofs.Parts.{put-same, edit-length}
-use Rattle.programs.proofs.Players.{slot-inside}
 use Rattle.programs.proofs.Slots.{received-length}
 use Rattle.controls.specs.Applying.{applyOf}
 use Rattle.controls.proofs.Controllers.{length-kept}
@@ -38,7 +37,7 @@ use Rattle.podbox.specs.Whole.{bodyOf, messageOrder, handedDoes}
 use Rattle.podbox.proofs.Taking.{change-numbered}
 use Rattle.demands.specs.Duo.{namedIn, editIn, programsIn, storesPrograms, messageStores}
 use Rattle.demands.proofs.Forms.{send-does, message-meant}
-use Rattle.demands.proofs.Named.{Firm, IsProgram, Fills, writeIn, program-named, program-filled}
+use Rattle.demands.proofs.Named.{Firm, IsProgram, Fills, writeIn, program-named, named-filled}
 
 module _ (kind : Kind) (player : Player) where
   -- what is written is made of the programs and the player's edit buffer, and of programs of the programs alone
@@ -63,13 +62,13 @@ module _ (kind : Kind) (player : Player) where
   -- what is named is the same in two boxes that are alike to the player
   same-named : (t : Target) → There t → (a b : Held) → Firm kind a → Firm kind b → programsIn kind a ≡ programsIn kind b → editIn kind player a ≡ editIn kind player b
       → namedIn kind player t a ≡ namedIn kind player t b
-  same-named (One p) h a b f g shared own = sym (program-named kind player a f (One p) h) ∙ ap (namedIn kind player (One p)) shared ∙ program-named kind player b g (One p) h
+  same-named (One p) h a b f g shared own = sym (program-named kind player a f (One p) (tt, h)) ∙ ap (namedIn kind player (One p)) shared ∙ program-named kind player b g (One p) (tt, h)
   same-named Edit h a b f g shared own = own
-  same-named All h a b f g shared own = sym (program-named kind player a f All tt) ∙ ap (namedIn kind player All) shared ∙ program-named kind player b g All tt
+  same-named All h a b f g shared own = sym (program-named kind player a f All (tt, tt)) ∙ ap (namedIn kind player All) shared ∙ program-named kind player b g All (tt, tt)
 
   -- the dump that goes out of what is named
-  abbrev sentOf : Target → Held → Said Answer
-  sentOf t named =
+  abbrev dumpSaid : Target → Held → Said Answer
+  dumpSaid t named =
       let bytes = ended (dumpBody kind t (cond (cond (hasSpare kind) (allSet (named .marks)) true) (named .memory) (withoutSpares (sizeOf kind) (slotsFor t) (named .memory)))) in
       said (Sent (length bytes)) bytes
 
@@ -85,9 +84,6 @@ module _ (kind : Kind) (player : Player) where
           ≡ putPart (slotFor player t) (slotsFor t) (cond has (replicate (slotsFor t) (cond long 1 0)) (partOf (slotFor player t) (slotsFor t) (held .marks))) (held .marks)
       go true = refl
       go false = sym (put-same (slotFor player t) (slotsFor t) (held .marks))
-
-  edit-marked : (held : Held) → Firm kind held → length (partOf (editSlot player) 1 (held .marks)) ≡ 1
-  edit-marked held firm = let within = slot-inside player .1 in let marks = firm .1 in simp (length-take, length-drop) (omega arith)
 
   -- a controller and a program change write the player's edit buffer, and no mark
   put-writes : (bytes : List ℕ) (held : Held) → putIn kind player Edit bytes held ≡ writeIn kind player Edit (heldOf bytes (editIn kind player held .marks)) held
@@ -111,7 +107,7 @@ module _ (kind : Kind) (settings : Settings) (player : Player) where
         let same = program-named kind player held firm t h in (
           ap (λ (o : Outcome). o .held) (does held) ∙ store-writes kind player t long bytes held
               ∙ ap (λ (named : Held). writeIn kind player t (brought kind player t long bytes named) held) (sym same),
-          brought-fills t long bytes body (namedIn kind player t (programsIn kind held)) d (ap (λ (named : Held). length (named .marks)) same ∙ program-filled kind player held firm t h .1),
+          brought-fills t long bytes body (namedIn kind player t (programsIn kind held)) d (ap (λ (named : Held). length (named .marks)) same ∙ named-filled kind player held firm t (h .1) .1),
         ));
     said-by = λ a b _ _ _ _. ap saidOf (does a) ∙ sym (ap saidOf (does b));
   }
@@ -123,17 +119,17 @@ module _ (kind : Kind) (settings : Settings) (player : Player) where
     effect = rests (λ held. ap (λ (o : Outcome). o .held) (send-does kind settings player t body held));
     said-by = λ a b f g shared own.
         ap saidOf (send-does kind settings player t body a)
-        ∙ ap (sentOf kind player t) (same-named kind player t (q .there) a b f g shared own)
+        ∙ ap (dumpSaid kind player t) (same-named kind player t (q .there) a b f g shared own)
         ∙ sym (ap saidOf (send-does kind settings player t body b));
   }
-  order-acts body o (dumped (One p) d) = store-acts (One p) (d .there) body _ _ _ d (λ _. refl)
-  order-acts body o (dumped All d) = store-acts All tt body _ _ _ d (λ _. refl)
+  order-acts body o (dumped (One p) d) = store-acts (One p) (tt, d .there) body _ _ _ d (λ _. refl)
+  order-acts body o (dumped All d) = store-acts All (tt, tt) body _ _ _ d (λ _. refl)
   order-acts body o (dumped Edit d) =
       let long = isLong kind Edit body in
       let bytes = join (drop (dataPlace (typeFor Edit)) body) in
       record {
         effect = edits (λ _ edit. brought kind player Edit long bytes edit)
-            (λ held firm. (store-writes kind player Edit long bytes held, brought-fills Edit long bytes body (editIn kind player held) d (edit-marked kind player held firm)));
+            (λ held firm. (store-writes kind player Edit long bytes held, brought-fills Edit long bytes body (editIn kind player held) d (named-filled kind player held firm Edit tt .1)));
         said-by = λ _ _ _ _ _ _. refl;
       }
   order-acts body o (unsaid check) = quiet kind player (λ _. refl) (λ _ _. refl)
@@ -144,7 +140,7 @@ module _ (kind : Kind) (settings : Settings) (player : Player) where
         (λ held firm.
         let edit = bytesIn kind player Edit held in (
           put-writes kind player (applyOf kind controller value edit .edit) held,
-          (length-kept kind controller value edit ∙ edit-length kind player held (firm .0), edit-marked kind player held firm),
+          (length-kept kind controller value edit ∙ edit-length kind player held (firm .0), named-filled kind player held firm Edit tt .1),
         ));
     said-by = λ a b _ _ _ own. ap (λ (edit : Held). said (changeAnswer (applyOf kind controller value (edit .memory) .answer)) []) own;
   }
@@ -152,14 +148,14 @@ module _ (kind : Kind) (settings : Settings) (player : Player) where
   change-acts : (number : ℕ) → (1 ≤ number) × (number ≤ programCount) → Acts kind player false (programChangeDoes kind player number)
   change-acts number n =
       let program = One (number - 1) in
-      let there : number - 1 ≤ lastProgram = omega arith in
+      let there : IsProgram program = (tt, omega arith) in
       record {
         effect = edits (λ programs edit. heldOf (bytesIn kind player program programs) (edit .marks))
             (λ held firm.
             let same = ap (λ (named : Held). named .memory) (program-named kind player held firm program there) in (
               put-writes kind player (bytesIn kind player program held) held
                   ∙ ap (λ (bytes : List ℕ). writeIn kind player Edit (heldOf bytes (editIn kind player held .marks)) held) (sym same),
-              (ap length same ∙ program-filled kind player held firm program there .0, edit-marked kind player held firm),
+              (ap length same ∙ named-filled kind player held firm program (there .1) .0, named-filled kind player held firm Edit tt .1),
             ));
         said-by = λ _ _ _ _ _ _. refl;
       }

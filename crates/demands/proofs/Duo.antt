@@ -2,7 +2,7 @@
 use Prim.Native.Nat.{ℕ}
 use mathlib.Core.Bool.{Bool, true, false, true≢false}
 use mathlib.Core.List.{List, [], _∷_}
-use mathlib.Core.Logic.{inl, inr, _↔_}
+use mathlib.Core.Logic.{_↔_}
 use mathlib.Core.Path.{_≡_, refl, sym, ap, subst, _∙_}
 use native.Mathlib.Omega.{arith}
 use lib.Dec.{leb}
@@ -49,8 +49,8 @@ module _ (kind : Kind) (player : Player) {storing : Bool} {Does : Held → Outco
     where
       go : Effect kind player storing Does → Firm kind (Does held .held)
       go (rests stay) = rw (stay held) firm
-      go (edits new does) = let d = does held firm in rw (d .0) (write-firm kind player held firm Edit (inl refl) (new (programsIn kind held) (editIn kind player held)) (d .1))
-      go (stores t h is new does) = let d = does held firm in rw (d .0) (write-firm kind player held firm t (inr h) (new (programsIn kind held)) (d .1))
+      go (edits new does) = let d = does held firm in rw (d .0) (write-firm kind player held firm Edit tt (new (programsIn kind held) (editIn kind player held)) (d .1))
+      go (stores t h is new does) = let d = does held firm in rw (d .0) (write-firm kind player held firm t (h .1) (new (programsIn kind held)) (d .1))
 
   programs-stay : storing ≡ false → (held : Held) → Firm kind held → programsIn kind (Does held .held) ≡ programsIn kind held
   programs-stay none held firm = go (acts .effect)
@@ -94,9 +94,9 @@ module _ (kind : Kind) (player : Player) {storing : Bool} {Does : Held → Outco
         go (edits new does) =
             let d = does a f in
             let e = does b g in
-            ap (editIn kind player) (d .0) ∙ write-named kind player a f Edit (inl refl) (new (programsIn kind a) (editIn kind player a)) (d .1)
+            ap (editIn kind player) (d .0) ∙ write-named kind player a f Edit tt (new (programsIn kind a) (editIn kind player a)) (d .1)
             ∙ (λ i. new (shared i) (own i))
-            ∙ sym (ap (editIn kind player) (e .0) ∙ write-named kind player b g Edit (inl refl) (new (programsIn kind b) (editIn kind player b)) (e .1))
+            ∙ sym (ap (editIn kind player) (e .0) ∙ write-named kind player b g Edit tt (new (programsIn kind b) (editIn kind player b)) (e .1))
         go (stores t h is new does) =
             let d = does a f in
             let e = does b g in
@@ -295,35 +295,35 @@ module _ (kindNumber : ℕ) (settings : Settings) where
   -- "Controllers, program changes, edit dumps and edit requests act on the sender's own buffer": whatever is lent, a byte, a panel message and a list leave the
   -- edit buffer of the player that they are not of, and its mark.
   module _ (p : Socket) (held : Held) where
-    abbrev Left : Held → Type 0
-    Left after = editIn (kindOf kindNumber) (socketPlayer p) after ≡ editIn (kindOf kindNumber) (socketPlayer p) held
+    abbrev Untouched : Held → Type 0
+    Untouched after = editIn (kindOf kindNumber) (socketPlayer p) after ≡ editIn (kindOf kindNumber) (socketPlayer p) held
 
     happening-left : Firm (kindOf kindNumber) held → (s : Socket) → ifSame p s true false ≡ false → (h : Happening)
-        → Left (happeningDoes (boxRules kindNumber settings) held s h .held)
+        → Untouched (happeningDoes (boxRules kindNumber settings) held s h .held)
     happening-left firm s e Nothing = refl
     happening-left firm s e Cut = refl
     happening-left firm s e (Finished m) = kept-by p (FromSocket s m) held firm e
 
     pub take-leaves : (socket : ℕ) → (socketOf socket ≡ p → ⊥) → (r : Receiver) (b : ℕ) (receive reply : List ℕ)
-        → Left (takeOf kindNumber settings socket r b held receive reply .held)
+        → Untouched (takeOf kindNumber settings socket r b held receive reply .held)
     unfolding stepDoes
     take-leaves socket differ r b receive reply =
-        take-cases kindNumber settings socket r b held receive reply (λ (l : Took). Left (l .held))
+        take-cases kindNumber settings socket r b held receive reply (λ (l : Took). Untouched (l .held))
         (λ _ _ _. refl)
         (λ all. happening-left (leb-true _ _ (all .1 .0), leb-true _ _ (all .1 .1 .0)) (socketOf socket) (not-same p (socketOf socket) differ)
         (happeningOf (stepOf (limit (kindOf kindNumber)) r b .event) receive))
 
     pub whole-leaves : (playerNumber : ℕ) → (socketOf playerNumber ≡ p → ⊥) → (message reply : List ℕ)
-        → Left (wholeOf kindNumber settings playerNumber message held reply .held)
+        → Untouched (wholeOf kindNumber settings playerNumber message held reply .held)
     whole-leaves playerNumber differ message reply =
-        whole-cases kindNumber settings playerNumber message held reply (λ (l : LeftOf (boxRules kindNumber settings)). Left (l .held))
+        whole-cases kindNumber settings playerNumber message held reply (λ (l : LeftOf (boxRules kindNumber settings)). Untouched (l .held))
         (λ _ _ _. refl)
-        (λ all. subst (λ (player : Player). Left (handedDoes (kindOf kindNumber) settings player message held .held)) (sender playerNumber)
+        (λ all. subst (λ (player : Player). Untouched (handedDoes (kindOf kindNumber) settings player message held .held)) (sender playerNumber)
         (kept-by p (FromDirect (FromPanel (socketOf playerNumber) message)) held (leb-true _ _ (all .1 .0), leb-true _ _ (all .1 .1 .0))
         (not-same p (socketOf playerNumber) differ)))
 
     pub moves-leaves : (playerNumber : ℕ) → (socketOf playerNumber ≡ p → ⊥) → (moves : List Move) (numbers : List ℕ)
-        → Left (movesOf kindNumber settings playerNumber moves held numbers .held)
+        → Untouched (movesOf kindNumber settings playerNumber moves held numbers .held)
     moves-leaves playerNumber differ moves numbers =
         let alone = every-list kindNumber settings playerNumber moves held numbers .alone in
         let bytes = alone .other-stays (socketPlayer p) (λ same. other-player p (socketOf playerNumber) (not-same p (socketOf playerNumber) differ) (sender playerNumber ∙ same)) in

@@ -3,9 +3,9 @@ pub mod Accepts
 pub mod Forms
 pub mod Tells
 pub mod Carried
+pub mod Marks
 pub mod Named
 pub mod Acts
-pub mod Marks
 pub mod Exactly
 pub mod ComesBack
 pub mod BothLengths
