@@ -1,4 +1,6 @@
 // What a body asks for, done: what an order does to what the box holds and to the reply buffer.
+#![tactic(auto)]
+
 mod answering;
 mod bytes;
 mod short;

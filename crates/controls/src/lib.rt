@@ -1,4 +1,6 @@
 // The controllers of each kind of unit: a controller to its stored number, and a stored number back to its controller.
+#![tactic(auto)]
+
 mod fields;
 mod formulas;
 mod sheet;
@@ -14,7 +16,7 @@ use kinds::Kind;
 pub use table::row_of;
 
 // A row of the table. A row of no bytes stands for a controller that is not in it.
-#[derive(Drop)]
+#[derive(Clone, Copy)]
 pub struct Row {
     pub place: u8,
     pub width: u8,
@@ -25,14 +27,14 @@ pub struct Row {
 }
 
 // What became of a controller move.
-#[derive(Drop)]
+#[derive(Clone, Copy)]
 pub enum Change {
     Applied,
     Refused(u8),
 }
 
 // A number that was asked for, told apart from a refusal.
-#[derive(Drop)]
+#[derive(Clone, Copy)]
 pub enum Reading {
     Value(u16),
     Refused(u8),

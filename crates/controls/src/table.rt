@@ -26,7 +26,7 @@ const ROTARY: u8 = 4;
 const TREMOLO: u8 = 5;
 
 // A row, and what its formula divides by: 0 where it does not divide.
-#[derive(Drop)]
+#[derive(Clone, Copy)]
 pub(crate) struct Found {
     pub row: Row,
     pub divisor: u8,

@@ -1,4 +1,6 @@
 // The C interface: the box on numbers and byte slices. include/costerbloom.h declares its seven functions.
+#![tactic(auto)]
+
 mod moves;
 mod numbers;
 
@@ -16,7 +18,7 @@ use kinds::Kind;
 pub use moves::costerbloom_moves;
 
 // What the byte call gives back in numbers: the receiver for the next one, and the answer.
-#[derive(Drop)]
+#[derive(Clone, Copy)]
 struct Handed {
     receiver: Receiver,
     answer: u64,

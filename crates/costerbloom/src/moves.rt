@@ -9,7 +9,7 @@ use crate::numbers;
 use podbox::Move;
 
 // How many moves of a list are made, and what the call answers.
-#[derive(Drop)]
+#[derive(Clone, Copy)]
 struct Allowed {
     count: usize,
     answer: u64,

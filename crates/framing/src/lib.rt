@@ -1,4 +1,6 @@
 // From bytes to finished messages: the receiver by value, and what one byte does to it. It knows no memory and no meaning.
+#![tactic(auto)]
+
 mod bytes;
 mod soundness;
 
@@ -10,7 +12,7 @@ pub use soundness::sound;
 
 // What a socket keeps between its bytes: plain numbers, so that any bits C may lend are a value. All zero is fresh.
 #[repr(C)]
-#[derive(Drop)]
+#[derive(Clone, Copy)]
 pub struct Receiver {
     // How many bytes of the open SysEx are stored.
     pub stored: u16,
@@ -41,7 +43,7 @@ pub fn fresh() -> Receiver
 }
 
 // What a byte did, and what it leaves to do for whoever has the receive buffer.
-#[derive(Drop)]
+#[derive(Clone, Copy)]
 pub enum Event {
     Nothing,
     // The byte belongs at this place of the receive buffer.
@@ -59,7 +61,7 @@ pub enum Event {
 }
 
 // The event stands first: behind the receiver it would be written last, and the compiler would write it through memory.
-#[derive(Drop)]
+#[derive(Clone, Copy)]
 pub struct Stepped {
     pub event: Event,
     pub receiver: Receiver,

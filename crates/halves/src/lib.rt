@@ -1,4 +1,6 @@
 // Bytes and half bytes, over any length.
+#![tactic(auto)]
+
 mod flags;
 
 ghost use Rattle.std.specs.Prelude.{◌≡◌, ◌*◌, ◌+◌, ◌%◌, max, length};
@@ -9,7 +11,7 @@ ghost use Rattle.halves.specs.Moving.{filled, split_into, join_into, join_any_in
 pub use flags::all_flags;
 
 // How splitting or joining ended. Nothing is written unless it is `Done`.
-#[derive(Drop)]
+#[derive(Clone, Copy)]
 pub enum Moved {
     Done,
     // There are not two half bytes for each byte.

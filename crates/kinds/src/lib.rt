@@ -1,8 +1,10 @@
 // The kinds of unit that a box may be set as, and all that hangs on the kind: a further kind is a case more of each `match`.
+#![tactic(auto)]
+
 ghost use Rattle.std.specs.Prelude.{◌≡◌};
 ghost use Rattle.kinds.specs.Kinds.{is_kind, kind_of, size_of, has_spare, device_of, header_of, identity_of, takes_program_change, highest_model, is_known_model};
 
-#[derive(Drop)]
+#[derive(Clone, Copy)]
 pub enum Kind {
     Pod,
     BassPod,

@@ -1,4 +1,6 @@
 // Standard input as socket 0 of a fresh box, of the kind that a word names: a line for each byte whose number is not 0.
+#![tactic(auto)]
+
 mod lines;
 
 use framing::Receiver;
@@ -11,7 +13,7 @@ use programs::MARKS;
 type Marks = [u8; MARKS];
 
 // Where the listing stands: the socket's receiver, and the place of the next byte.
-#[derive(Drop)]
+#[derive(Clone, Copy)]
 struct Stand {
     receiver: Receiver,
     place: u64,

@@ -1,4 +1,6 @@
 // The box: a whole message from the panel, the reason for its number, a move of a list, and one byte on one socket.
+#![tactic(auto)]
+
 mod channel;
 mod moves;
 mod panel;
@@ -15,7 +17,7 @@ use sysex::Answer;
 pub use why::reason;
 
 // What a byte call gives back: the receiver for the next one, and the answer.
-#[derive(Drop)]
+#[derive(Clone, Copy)]
 pub struct Took {
     pub receiver: Receiver,
     pub answer: Answer,
@@ -23,7 +25,7 @@ pub struct Took {
 
 // A move of a list: a controller, and a value for it.
 #[repr(C)]
-#[derive(Drop)]
+#[derive(Clone, Copy)]
 pub struct Move {
     pub controller: u8,
     pub value: u8,

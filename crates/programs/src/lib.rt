@@ -1,5 +1,7 @@
 // The programs and the players' edit buffers in memory: how many there are, and where they stand. All lengths of the box
 // derive from these and from the kind.
+#![tactic(auto)]
+
 ghost use Rattle.std.specs.Prelude.{◌≡◌};
 ghost use Rattle.programs.specs.Memory.{is_player, player_of, edit_slot, edit_place, memory_size};
 
@@ -11,7 +13,7 @@ pub const PROGRAMS: usize = 36;
 pub const MARKS: usize = PROGRAMS + 2;
 
 // The two who play: each has an edit buffer, and they share the programs.
-#[derive(Drop)]
+#[derive(Clone, Copy)]
 pub enum Player {
     One,
     Two,

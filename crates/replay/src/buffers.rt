@@ -18,7 +18,7 @@ pub(crate) type Marks = [u8; MARKS];
 pub(crate) type Buffer = [u8; SIZE];
 
 // How many bytes of each are lent; one above the buffer's own length is taken as that.
-#[derive(Drop)]
+#[derive(Clone, Copy)]
 pub(crate) struct Lent {
     pub(crate) memory: u16,
     pub(crate) receive0: u16,

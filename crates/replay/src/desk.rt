@@ -5,7 +5,7 @@ use crate::{buffers, receiver, script};
 use framing::Receiver;
 use sysex::Settings;
 
-#[derive(Drop)]
+#[derive(Clone, Copy)]
 pub(crate) struct Desk {
     // The message's length; one above its buffer's is taken as that.
     pub(crate) length: u16,

@@ -1,4 +1,6 @@
 // Runs a script of calls, and prints each answer with digests of the buffers and with the receivers.
+#![tactic(auto)]
+
 mod buffers;
 mod calls;
 mod desk;

@@ -1,7 +1,7 @@
 // A script: commands of four bytes.
 use libc::STDIN_FILENO;
 
-#[derive(Drop)]
+#[derive(Clone, Copy)]
 pub(crate) struct Command {
     pub(crate) op: u8,
     pub(crate) a: u8,
@@ -9,7 +9,7 @@ pub(crate) struct Command {
     pub(crate) v: u8,
 }
 
-#[derive(Drop)]
+#[derive(Clone, Copy)]
 pub(crate) enum Next {
     Do(Command),
     End,

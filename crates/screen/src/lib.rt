@@ -1,4 +1,6 @@
 // What the screen is handed: the bytes of a shared program, or of the player's own buffer.
+#![tactic(auto)]
+
 ghost use Rattle.std.specs.Prelude.{◌≡◌};
 ghost use Rattle.screen.specs.Parts.{shown};
 ghost use Rattle.screen.specs.Screen.{screen_of};
@@ -11,7 +13,7 @@ use programs::PROGRAMS;
 const LAST: u32 = 0x23;
 
 // What the tests answer.
-#[derive(Drop)]
+#[derive(Clone, Copy)]
 enum Choice {
     // Nothing, with the number of the refusal.
     Refused(u8),

@@ -1,4 +1,6 @@
 // The wall sheet: a line for each value, with the number that each of the six columns' controllers stores for it.
+#![tactic(auto)]
+
 ghost use Rattle.std.specs.Prelude.{◌≡◌, ◌≤◌};
 ghost use Rattle.controls.specs.Sheet.{on_sheet};
 

@@ -1,5 +1,7 @@
 // Every controller of every kind over every value and setting, and every byte and half byte: a line of counts and
 // digests for each.
+#![tactic(auto)]
+
 mod buffer;
 mod controllers;
 mod half_bytes;

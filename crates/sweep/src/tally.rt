@@ -1,7 +1,7 @@
 // What is counted and digested over a run of answers.
 use controls::Reading;
 
-#[derive(Drop)]
+#[derive(Clone, Copy)]
 pub(crate) struct Tally {
     pub(crate) count: u32,
     pub(crate) digest: u64,

@@ -1,5 +1,7 @@
 // SysEx: what a message's body asks for, and the numbers of orders and answers. A body is F0 and the bytes after it,
 // without F7, as it stands in a receive buffer; nothing is assumed of its bytes.
+#![tactic(auto)]
+
 mod bytes;
 mod judging;
 mod numbers;
@@ -7,7 +9,7 @@ mod numbers;
 pub use judging::{ALL, DUMP, EDIT, PROGRAM, VERSION, judge, longest, version_place};
 pub use numbers::{answer_length, answer_number, check_number, order_number, refused};
 
-#[derive(Drop)]
+#[derive(Clone, Copy)]
 pub struct Settings {
     pub channel: u8,
     pub omni: u8,
@@ -18,7 +20,7 @@ pub struct Settings {
 }
 
 // A check of a message, with what it expects: document 01's tests 10 to 16, and 22.
-#[derive(Drop)]
+#[derive(Clone, Copy)]
 pub enum Check {
     // The most bytes of a message.
     TooLong(u16),
@@ -37,7 +39,7 @@ pub enum Check {
 }
 
 // What a message asks for, or the first check that fails.
-#[derive(Drop)]
+#[derive(Clone, Copy)]
 pub enum Order {
     // The identity reply, with its cc.
     Identify(u8),
@@ -51,14 +53,14 @@ pub enum Order {
 }
 
 // Why a message or a call is refused: document 01's number.
-#[derive(Drop)]
+#[derive(Clone, Copy)]
 pub struct Refusal {
     pub number: u8,
 }
 
 // What the box answers, by document 01's numbers. A SysEx is stored, answered with so many bytes, or refused; a program
 // change that is taken is `Stored` too.
-#[derive(Drop)]
+#[derive(Clone, Copy)]
 pub enum Answer {
     Taken,
     Stored,

@@ -1,5 +1,7 @@
 // One message from standard input, handed whole to a fresh box of the kind that a word names: the line that says what
 // becomes of it.
+#![tactic(auto)]
+
 mod line;
 
 ghost use Rattle.std.specs.Prelude.{◌≤◌, [], ◌∷◌, ◌≡◌, length};
@@ -12,7 +14,7 @@ use libc::{STDERR_FILENO, STDIN_FILENO};
 const SIZE: usize = podbox::LONGEST + 1;
 
 // How many bytes of the input are kept, or that it could not be read.
-#[derive(Drop)]
+#[derive(Clone, Copy)]
 enum Input {
     Kept(usize),
     Failed,
