@@ -10,11 +10,12 @@ pages."""
 import pathlib
 import re
 
-WORD = re.compile(r"(?<![0-9A-Za-z_'.\-])[a-z][0-9A-Za-z_'\-]*")
-ANY = re.compile(r"(?<![0-9A-Za-z_'\-])[a-z][0-9A-Za-z_'\-]*")
+WORD = re.compile(r"(?<![0-9A-Za-z_'\-])[a-z][0-9A-Za-z_'\-]*")
 DECLARED = re.compile(r"(?:abbrev |unfoldable )?(?:pub )?(?:data |record |ruleset |abbrev )?([a-z][^\s:]*) (?::|=)")
 # made by Rattle, in today's spelling already
 MADE = {"uint_Tells", "uint_Makes", "mut_Tells", "mut_slice_Tells", "shr_slice_Tells"}
+# a lemma of a section that stands beside an import which has the plain name
+BESIDE = {"calm-saids"}
 # definitions of the library that lemmas here are named after
 KIT = {"length", "take", "drop", "set", "cond", "map", "append", "max"}
 
@@ -43,7 +44,7 @@ def library_names():
 
 def dashed_names(files, known):
     """The names with dashes, each with its new spelling; known are the names of definitions and functions."""
-    words = {word for file in files for line in file.read_text().split("\n") for word in ANY.findall(code(line))}
+    words = {word for file in files for line in file.read_text().split("\n") for word in WORD.findall(code(line))}
     phrases = sorted((name for name in known if "_" in name), key=len, reverse=True)
     taken = words | known
     stated = {match.group(1) for file in files for line in file.read_text().split("\n")
@@ -57,16 +58,21 @@ def dashed_names(files, known):
         new = parts[0]
         for before, part in zip(parts, parts[1:]):
             new += ("-" if before in known and part in known else "_") + part
-        while new != name and new in taken and name in stated:
+        while new != name and new in taken and (name in stated or name in BESIDE):
             new += "_lem"
         taken.add(new)
         turned[name] = new
     return turned
 
 
+def camel(text):
+    """The names in camel case that are still there."""
+    words = {word for word in WORD.findall(text) if re.search("[A-Z]", word) and "-" not in word}
+    return {word: snake(word) for word in words - MADE if re.search("[0-9a-z][A-Z]", word)}
+
+
 def turn_code(text, names):
-    dashed = any("-" in name for name in names)
-    return (ANY if dashed else WORD).sub(lambda word: names.get(word.group(), word.group()), text)
+    return WORD.sub(lambda word: names.get(word.group(), word.group()), text)
 
 
 def turn_quoted(text, names):
@@ -93,8 +99,11 @@ def main():
     pages = [pathlib.Path("README.md"), *sorted(pathlib.Path("docs").glob("**/*.md"))]
 
     def turn(names):
-        for file in [*proofs, *edits]:
+        for file in proofs:
             turn_file(file, names, "--")
+        for file in edits:
+            # port.py turns no edit: the names that it has turned elsewhere are turned here
+            turn_file(file, camel(file.read_text()) | names, "")
         for file in sources:
             turn_file(file, names, "//")
         for file in pages:

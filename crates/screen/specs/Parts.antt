@@ -3,7 +3,7 @@ use Rattle.std.specs.Prelude.{ℕ, ◌+◌, List}
 use Rattle.std.specs.Borrow.{Bor}
 use Rattle.programs.specs.Memory.{part_of}
 
--- a slice of bytes as it is lent: `.ptr` is where it begins, a block of memory and a place in it, and `.now` its bytes
+-- a slice of bytes as it is lent: `.ref_ptr` is where it begins, a block of memory and a place in it, and `.now` its bytes
 abbrev pub Slice : Type 0
 Slice = Bor (List ℕ)
 
@@ -14,7 +14,7 @@ pub record Part : Type 0 where
 
 -- the place that lies `start` bytes behind where a slice begins
 abbrev pub place_in : Slice → ℕ → ℕ × ℕ
-place_in slice start = (slice.ptr.0, start + slice.ptr.1)
+place_in slice start = (slice.ref_ptr.0, start + slice.ref_ptr.1)
 
 -- "in the memory they already occupy": `count` bytes of a lent slice, from `start` on
 abbrev pub lent_part : Slice → ℕ → ℕ → Part

@@ -76,22 +76,22 @@ module _ (rules : Rules) where
       (λ c. ap (λ (h : Happening). finishing s h ++ finished_of after calls) (happens_level before before' e s b)
       ∙ ap (λ (l : FinishesOf rules). finishing s (happens_to before' s b) ++ l) (calm_finished after after' calls (level_byte before before' e s b)))
 
-  calm_saids : (held : rules.Held) (before before' calls : CallsOf rules) → Level before before'
+  calm_saids_lem : (held : rules.Held) (before before' calls : CallsOf rules) → Level before before'
       → calm_saids calls (answers_to held before calls) ≡ answers_to held before' (calm calls)
-  calm_saids held before before' [] e = refl
-  calm_saids held before before' (Direct x ∷ calls) e =
+  calm_saids_lem held before before' [] e = refl
+  calm_saids_lem held before before' (Direct x ∷ calls) e =
       ap (λ (l : SaidsOf rules). said_of (does rules (λ s. Idle) held before (Direct x)) ∷ l)
-      (calm_saids _ (before ++ (Direct x ∷ [])) (before' ++ (Direct x ∷ [])) calls (level_direct before before' e x))
-  calm_saids held before before' (Byte s b ∷ calls) e =
+      (calm_saids_lem _ (before ++ (Direct x ∷ [])) (before' ++ (Direct x ∷ [])) calls (level_direct before before' e x))
+  calm_saids_lem held before before' (Byte s b ∷ calls) e =
       let after = before ++ (Byte s b ∷ []) in
       let after' = before' ++ (Byte s b ∷ []) in
       let o = happening_does rules held s (happens_to before s b) in
       together (λ (l : SaidsOf rules) (k : CallsOf rules). l ≡ answers_to held before' k) (is_real_time b)
       (calm_saids calls (answers_to o.held after calls)) (said_of o ∷ calm_saids calls (answers_to o.held after calls))
       (calm calls) (Byte s b ∷ calm calls)
-      (λ c. calm_saids o.held after before' calls (level_real_time before before' e s b c)
+      (λ c. calm_saids_lem o.held after before' calls (level_real_time before before' e s b c)
       ∙ ap (λ (h : Happening). answers_to (happening_does rules held s h).held before' (calm calls)) (happens_real_time before before' e s b c))
-      (λ c. ap (λ (l : SaidsOf rules). said_of o ∷ l) (calm_saids o.held after after' calls (level_byte before before' e s b))
+      (λ c. ap (λ (l : SaidsOf rules). said_of o ∷ l) (calm_saids_lem o.held after after' calls (level_byte before before' e s b))
       ∙ ap (λ (h : Happening). said_of (happening_does rules held s h) ∷ answers_to (happening_does rules held s h).held after' (calm calls))
       (happens_level before before' e s b))
 
@@ -101,7 +101,7 @@ calms rules w v w' v' calls saids saids' law new history new' history' e =
     let d = demand3 rules w v calls saids law new history in
     let d' = demand3 rules w' v' (calm calls) saids' law new' history' in
     let q = calm_finished rules [] [] calls (λ s. refl) in
-    let a = calm_saids rules w.held [] [] calls (λ s. refl) in
+    let a = calm_saids_lem rules w.held [] [] calls (λ s. refl) in
     let same_messages = d.order ∙ q ∙ sym d'.order in (
       d.held ∙ (λ i. held_after rules (e i) (same_messages i)) ∙ sym d'.held,
       ap (λ (l : SaidsOf rules). calm_saids calls l) d.each ∙ a ∙ ap (λ (held : rules.Held). saids_along rules (λ s. Idle) held [] (calm calls)) e ∙ sym d'.each,

@@ -43,16 +43,16 @@ module _ (rules : Rules) (start : Socket → Framer) where
     pub each : saids ≡ saids_along rules start found before calls
 
   -- one call carries out what it finishes
-  pub held_one : (c : Call rules.Given) (before : CallsOf rules) (held : rules.Held)
+  pub held_one_lem : (c : Call rules.Given) (before : CallsOf rules) (held : rules.Held)
       → held_after rules held (finishes_of before c) ≡ (does rules start held before c).held
   unfolding finishes
-  held_one (Byte s b) before held = go (happens rules.limit start before s b)
+  held_one_lem (Byte s b) before held = go (happens rules.limit start before s b)
     where
       go : (h : Happening) → held_after rules held (finishing s h) ≡ (happening_does rules held s h).held
       go Nothing = refl
       go Cut = refl
       go (Finished m) = refl
-  held_one (Direct x) before held = refl
+  held_one_lem (Direct x) before held = refl
 
   module _ (law : Lawful rules) where
     sent-one : (c : Call rules.Given) (before : CallsOf rules) (held : rules.Held) → rules.Good held
@@ -77,9 +77,9 @@ module _ (rules : Rules) (start : Socket → Framer) where
         let gs = finished_by rules start (before ++ (c ∷ [])) calls in
         rw n
         (record {
-          held = rw (held_append rules found fs gs, held_one c before found) rest.held;
+          held = rw (held_append rules found fs gs, held_one_lem c before found) rest.held;
           replies =
-              rw (saids_append rules found fs gs, held_one c before found, sent-append rules.number (saids_of rules found fs))
+              rw (saids_append rules found fs gs, held_one_lem c before found, sent-append rules.number (saids_of rules found fs))
               (rw (← (sent-one c before found g), ← rest.replies) (sent-append rules.number (first ∷ []) saids));
           each = ap (λ (l : SaidsOf rules). first ∷ l) rest.each;
         })

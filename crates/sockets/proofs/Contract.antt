@@ -88,15 +88,15 @@ module _ (rules : Rules) (law : Lawful rules) where
 
   pub direct_passed : (x : rules.Given) (held : rules.Held) (out : List ℕ) (done : LeftOf rules) → done ≡ direct_of rules x held out
       → turned_away (rules.number done.answer) ≡ false
-      → AllHold (rules.testsDirect x held out) × (direct_of rules x held out ≡ leaves (direct_does rules held x) out)
+      → AllHold (rules.tests_direct x held out) × (direct_of rules x held out ≡ leaves (direct_does rules held x) out)
   unfolding direct_of
   direct_passed x held out done c e =
-      taken rules (λ (l : LeftOf rules). l.answer) (rules.testsDirect x held out) (λ number. left (rules.plain number) held out)
-      (leaves (direct_does rules held x) out) (λ n. refl) (law.awayDirect x held out) (rw c at e)
+      taken rules (λ (l : LeftOf rules). l.answer) (rules.tests_direct x held out) (λ number. left (rules.plain number) held out)
+      (leaves (direct_does rules held x) out) (λ n. refl) (law.away_direct x held out) (rw c at e)
 
   pub direct_took : (x : rules.Given) (held : rules.Held) (out : List ℕ) (done : LeftOf rules) → done ≡ direct_of rules x held out
       → turned_away (rules.number done.answer) ≡ false → TookDirect x held done (direct_does rules held x)
   direct_took x held out done c e =
       let t = direct_passed x held out done c e in
-      let g = law.enoughDirect x held out t.0 in
-      rw (c ∙ t.1) (record { good = g; after = refl; answer = refl; sent = rw (law.toldDirect held x g) (take-append_seam _ _) })
+      let g = law.enough_direct x held out t.0 in
+      rw (c ∙ t.1) (record { good = g; after = refl; answer = refl; sent = rw (law.told_direct held x g) (take-append_seam _ _) })

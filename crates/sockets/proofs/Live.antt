@@ -29,7 +29,7 @@ pub record Ready (rules : Rules) (reply : List ℕ) (Able : rules.Held → Type 
   pub taken : (s : Socket) (held : rules.Held) (r : Receiver) (receive : List ℕ)
       → Able held → sound_of rules.limit r ≡ true → rules.limit < length receive
       → AllHold (rules.tests (socket_number s) (lent r held receive reply))
-  pub taken_direct : (x : rules.Given) (out : List ℕ) (held : rules.Held) → Able held → Fair x out → AllHold (rules.testsDirect x held out)
+  pub taken_direct : (x : rules.Given) (out : List ℕ) (held : rules.Held) → Able held → Fair x out → AllHold (rules.tests_direct x held out)
   -- and no number of what is taken is one of a call turned away
   pub quiet : (turned_away (rules.number (rules.plain 0)) ≡ false) × (turned_away (rules.number (rules.plain 4)) ≡ false)
   pub answered : (held : rules.Held) (s : Socket) (m : Message) → Able held → turned_away (rules.number (rules.carry held (FromSocket s m)).answer) ≡ false
@@ -61,7 +61,7 @@ module _ (rules : Rules) (law : Lawful rules) where
   module _ (reply : List ℕ) (Able : rules.Held → Type 0) (Fair : rules.Given → List ℕ → Type 0) (ready : Ready rules reply Able Fair) (outs : rules.Given → List ℕ) where
     able_after : (held : rules.Held) (fs : FinishesOf rules) → Able held → Able (held_after rules held fs)
     able_after held [] g = g
-    able_after held (f ∷ fs) g = able_after _ fs (ready.kept held f g)
+    able_after held (f ∷ fs) g = able_after (rules.carry held f).held fs (ready.kept held f g)
 
     able_effect : (s : Socket) (h : Happening) (held : rules.Held) → Able held → Able (happening_does rules held s h).held
     able_effect s Nothing held g = g
@@ -91,7 +91,7 @@ module _ (rules : Rules) (law : Lawful rules) where
         (after (λ buffer. rules.limit < length buffer) s done.receive w.receive room rooms) fair in
         (rest.0, _ ∷ rest.1, byte reply done (sym (tested_passed (rules.tests (socket_number s) entry) _ done all)) (taken_effect (socket_of (socket_number s)) h w.held good) rest.2)
     live w (Direct x ∷ calls) sound good rooms fair =
-        let all = ready.takenDirect x (outs x) w.held good fair.0 in
+        let all = ready.taken_direct x (outs x) w.held good fair.0 in
         let done = leaves (direct_does rules w.held x) (outs x) in
         let rest = live (back_direct w done.held) calls sound (able_after w.held (handing (rules.hands x)) good) rooms fair.1 in
-        (rest.0, _ ∷ rest.1, direct (outs x) done (sym (tested_passed (rules.testsDirect x w.held (outs x)) _ done all)) (ready.answeredDirect w.held x good) rest.2)
+        (rest.0, _ ∷ rest.1, direct (outs x) done (sym (tested_passed (rules.tests_direct x w.held (outs x)) _ done all)) (ready.answered_direct w.held x good) rest.2)

@@ -10,7 +10,7 @@ use Rattle.sockets.specs.History.{WorldOf, does, saids_along}
 use Rattle.sockets.specs.Players.{Players, Seen, Sent, Called, Stored, SeensOf, stored_by, seen_after, own_saids, Isolated}
 use Rattle.sockets.proofs.TwoPlayers.{is_of, AllOf, TwoPlayers}
 use Rattle.sockets.proofs.Alone.{stands_byte, stands_direct}
-use Rattle.sockets.proofs.Carried.{held_append, held_one}
+use Rattle.sockets.proofs.Carried.{held_append, held_one_lem}
 use Rattle.sockets.proofs.Whole.{demand3}
 
 abbrev other : Socket → Socket
@@ -138,7 +138,7 @@ module _ (rules : Rules) (players : Players rules) (two : TwoPlayers rules playe
       ≡ held_after rules (does rules start a before c).held (finished_by rules start (before ++ (c ∷ [])) calls)
   front c before calls a =
       held_append rules a (finishes rules.limit rules.hands start before c) (finished_by rules start (before ++ (c ∷ [])) calls)
-      ∙ rw (held_one rules start c before a)
+      ∙ rw (held_one_lem rules start c before a)
 
   follow : (p : Socket) (before calls : CallsOf rules) (a b : rules.Held) → Like rules players two p a b → Follows p before calls a b
   follow p before [] a b l = (refl, l)

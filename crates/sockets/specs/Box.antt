@@ -139,11 +139,11 @@ pub record Lawful (rules : Rules) : Type 0 where
   pub positive : zero < rules.limit
   -- a call that is turned away says so
   pub away : (socket : ℕ) (entry : LentOf rules) → Away rules (rules.tests socket entry)
-  pub away_direct : (x : rules.Given) (held : rules.Held) (out : List ℕ) → Away rules (rules.testsDirect x held out)
+  pub away_direct : (x : rules.Given) (held : rules.Held) (out : List ℕ) → Away rules (rules.tests_direct x held out)
   -- one that is not was lent enough
   pub enough : (socket : ℕ) (entry : LentOf rules) → AllHold (rules.tests socket entry)
       → (rules.limit < length entry.receive) × rules.Good entry.held
-  pub enough_direct : (x : rules.Given) (held : rules.Held) (out : List ℕ) → AllHold (rules.testsDirect x held out) → rules.Good held
+  pub enough_direct : (x : rules.Given) (held : rules.Held) (out : List ℕ) → AllHold (rules.tests_direct x held out) → rules.Good held
   -- and a message leaves enough
   pub kept : (held : rules.Held) (f : Finish rules.Delivered) → rules.Good held → rules.Good (rules.carry held f).held
   -- where nothing is finished, nothing is sent

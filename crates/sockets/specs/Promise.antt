@@ -57,4 +57,4 @@ module _ (rules : Rules) where
 
   -- a direct call
   unfoldable pub direct_of : rules.Given → rules.Held → List ℕ → LeftOf rules
-  direct_of x held out = tested (rules.testsDirect x held out) (λ number. left (rules.plain number) held out) (leaves (direct_does rules held x) out)
+  direct_of x held out = tested (rules.tests_direct x held out) (λ number. left (rules.plain number) held out) (leaves (direct_does rules held x) out)

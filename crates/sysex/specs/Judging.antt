@@ -1,5 +1,5 @@
 -- "A finished SysEx is tested 10, 11, 12, 13, 14, 15, 16": from 11 on, where its length is known to be in bounds.
--- Behind 11 they are one list (furtherTests), and the judge and the reason for a refusal both go by it.
+-- Behind 11 they are one list (further_tests), and the judge and the reason for a refusal both go by it.
 use Rattle.std.specs.Prelude.{ℕ, Bool, true, cond, ◌&&◌, ◌||◌, List, [], ◌∷◌, eqb, leb, length, get_or, drop}
 use Rattle.ground.specs.Tests.{Test, test, tested}
 use Rattle.halves.specs.HalfBytes.{all_halves}
