@@ -17,34 +17,31 @@ use Rattle.sysex.specs.declared.Answer.{Answer}
 use Rattle.carrying.specs.Carrying.{Outcome}
 use Rattle.podbox.specs.Private.{number_answer}
 use Rattle.podbox.proofs.Taking.{move-told, move_least}
-use borrow.Author.Rules.{rules}
-use Rattle.podbox.proofs.channel.controller.Statement.{statement}
-use Rattle.podbox.proofs.channel.controller.Tie as tie
+use Rattle.podbox.proofs.channel.controller.Goals as goal
 
 -- the edit buffer from a place on, changed
 abbrev put : List ℕ → List ℕ → ℕ → ℕ → Changed → Outcome
 put memory marks place count done = outcome (number_answer (change_number done.answer)) (held_of (put_part place (place + count - place) done.edit memory) marks) []
 
-add-end : tie.Need-overflow-add-end
-add-end c =
-    let a = c.before.before.before.args in
-    omega (arith, c.size.ensures, c.before.edit-place.ensures, edit-inside a.kind a.player, size-bounds a.kind)
+pub overflow_add-end : goal.overflow_add-end
+overflow_add-end c =
+    let a = c.args in
+    omega (arith, c.size.ensures, c.edit_place-place.ensures, edit-inside a.kind a.player, size-bounds a.kind)
 
-part-apply-end : tie.Need-slice-bounds-apply-end
-part-apply-end c =
-    let a = c.before.before.before.args in
-    omega (arith, c.size.ensures, c.before.edit-place.ensures, c.before.before.before.requires, edit-inside a.kind a.player)
+pub slice_bounds-apply-end : goal.slice_bounds-apply-end
+slice_bounds-apply-end c =
+    let a = c.args in
+    omega (arith, c.size.ensures, c.edit_place-place.ensures, c.requires, edit-inside a.kind a.player)
 
-returns : tie.Need-returns
+pub returns : goal.returns
 returns c =
-    let a = c.before.before.before.before.before.before.before.before.args in
-    let e = c.before.before.before.before.before.before.edit-place in
-    let s = c.before.before.before.before.before.size in
+    let a = c.args in
+    let e = c.edit_place-place in
+    let s = c.size in
     let place = e.ensures in
     let count = s.ensures in
-    let told = c.change-number.ensures in
-    let applied = c.before.before.before.apply.ensures in (
-      (λ (marks : List ℕ).
+    let told = c.change_number.ensures in
+    let applied = c.apply-change.ensures in record { by_index = (λ (marks : List ℕ).
           let held = held_of a.memory.now marks in
           rw told
           (ap (put a.memory.now marks e.result s.result) applied
@@ -54,22 +51,4 @@ returns c =
           (held_of (put_part (edit_place a.kind a.player) n (apply_of a.kind a.number a.value (take n (drop (edit_place a.kind a.player) a.memory.now))).edit a.memory.now) marks) [])
           (add-sub_cancel_left (edit_place a.kind a.player) (size_of a.kind))
           ∙ ap (λ (answer : Answer). outcome answer (put_in a.kind a.player Edit (apply_of a.kind a.number a.value (bytes_in a.kind a.player Edit held)).edit held) [])
-          (move-told a.kind a.number a.value (bytes_in a.kind a.player Edit held)))),
-      rw (told ∙ ap (λ (x : Changed). change_number x.answer) applied) (move_least _ _ _ _),
-    )
-
-pub controller-spec : {M : Type 1} → statement M
-controller-spec =
-    tie.close
-    (tie.spec
-    (λ c κs. search rules)
-    (λ c κs. search rules)
-    (λ c. search rules)
-    add-end
-    (λ c. search rules)
-    (λ c. search rules)
-    part-apply-end
-    (λ c κs. search rules)
-    (λ c κs. search rules)
-    (λ c. search rules)
-    returns)
+          (move-told a.kind a.number a.value (bytes_in a.kind a.player Edit held)))); lower_bound = rw (told ∙ ap (λ (x : Changed). change_number x.answer) applied) (move_least _ _ _ _) }
