@@ -6,7 +6,7 @@ use lib.ListN.{length-take}
 use Rattle.ground.proofs.Tests.{tests}
 use Rattle.podbox.specs.Messages.{message_does}
 use Rattle.podbox.proofs.Frames
-use Rattle.podbox.proofs.Orders.{handed_does}
+use Rattle.podbox.proofs.Orders.{handed_does_lem}
 use Rattle.carrying.proofs.Parts.{carry_long}
 use borrow.Author.Rules.{rules}
 use Rattle.podbox.proofs.panel.framed.Statement.{statement}
@@ -16,7 +16,7 @@ returns : tie.Need-returns
 unfolding message_does
 returns c =
     let over = rw c.before.before.longest.ensures at c.before.if1.true in
-    search (tests, over, handed_does, c.refused.ensures)
+    search (tests, over, handed_does_lem, c.refused.ensures)
 
 sub-end : tie.Need-overflow-sub-end
 sub-end c = let f = Frames.framed c.before.before.before.before.before.before.before.before.args.message.now (sym c.before.is_framed.ensures ∙ c.if2.true) in omega (arith, f.long)
@@ -28,14 +28,14 @@ returns-2 : tie.Need-returns-2
 unfolding message_does
 returns-2 c =
     let within = rw c.before.before.before.before.before.before.before.before.before.before.before.before.before.before.longest.ensures at c.before.before.before.before.before.before.before.before.before.before.before.before.before.if1.false in
-    rw (handed_does _ _ _ _ _, le-ltb _ _ within, ← c.before.before.before.before.before.before.before.before.before.before.before.before.is_framed.ensures, c.before.before.before.before.before.before.before.before.before.before.before.if2.true)
+    rw (handed_does_lem _ _ _ _ _, le-ltb _ _ within, ← c.before.before.before.before.before.before.before.before.before.before.before.before.is_framed.ensures, c.before.before.before.before.before.before.before.before.before.before.before.if2.true)
     (c.before.before.before.before.before.before.carry-out.ensures ∙ carry_long _ _ _ _ _ _ (omega arith) (omega arith) (omega arith))
 
 returns-3 : tie.Need-returns-3
 unfolding message_does
 returns-3 c =
     let within = rw c.before.before.before.before.longest.ensures at c.before.before.before.if1.false in
-    search (tests, within, handed_does, ← c.before.before.is_framed.ensures, c.before.if2.false, c.refused2.ensures)
+    search (tests, within, handed_does_lem, ← c.before.before.is_framed.ensures, c.before.if2.false, c.refused2.ensures)
 
 pub framed-spec : {M : Type 1} → statement M
 unfolding message_does

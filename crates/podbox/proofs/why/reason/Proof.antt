@@ -7,7 +7,7 @@ use Rattle.ground.proofs.Tests.{tests}
 use Rattle.sysex.proofs.Lengths.{longest_bounds}
 use Rattle.podbox.specs.Settings.{fresh_settings}
 use Rattle.podbox.proofs.Frames
-use Rattle.podbox.proofs.Orders.{message_order}
+use Rattle.podbox.proofs.Orders.{message_order_lem}
 use borrow.Author.Rules.{rules}
 use Rattle.podbox.proofs.why.reason.Statement.{statement}
 use Rattle.podbox.proofs.why.reason.Tie as tie
@@ -18,7 +18,7 @@ cast-t7 c = omega (arith, c.before.longest.ensures, longest_bounds c.before.befo
 returns : tie.Need-returns
 returns c =
     let over = rw c.before.longest.ensures at c.if1.true in
-    search (tests, over, message_order, c.before.longest.ensures)
+    search (tests, over, message_order_lem, c.before.longest.ensures)
 
 sub-end : tie.Need-overflow-sub-end
 sub-end c = let f = Frames.framed c.before.before.before.before.before.args.message.now (sym c.before.is_framed.ensures ∙ c.if2.true) in omega (arith, f.long)
@@ -31,13 +31,13 @@ unfolding fresh_settings
 returns-2 c =
     let k = c.before.before.before.before in
     let within = rw k.before.longest.ensures at k.if1.false in
-    rw (message_order _ _ _, le-ltb _ _ within, ← c.before.before.before.is_framed.ensures, c.before.before.if2.true) c.judge.ensures
+    rw (message_order_lem _ _ _, le-ltb _ _ within, ← c.before.before.before.is_framed.ensures, c.before.before.if2.true) c.judge.ensures
 
 returns-3 : tie.Need-returns-3
 returns-3 c =
     let k = c.before.before.before in
     let within = rw k.before.longest.ensures at k.if1.false in
-    rw (message_order _ _ _, le-ltb _ _ within, ← c.before.before.is_framed.ensures, c.before.if2.false, c.device.ensures)
+    rw (message_order_lem _ _ _, le-ltb _ _ within, ← c.before.before.is_framed.ensures, c.before.if2.false, c.device.ensures)
 
 pub reason-spec : {M : Type 1} → statement M
 reason-spec =
