@@ -16,7 +16,7 @@ pub(crate) enum Next {
     End,
 }
 
-// A rest of fewer than four bytes is the end.
+// A rest of fewer than four bytes is the end, and a read that fails is an error.
 pub(crate) fn read(script: &mut impl Read) -> io::Result<Next> {
     let mut bytes = [0u8; 4];
     match script.read_exact(&mut bytes) {
