@@ -128,11 +128,11 @@ fn list_part(
     let mut used = 0;
     let mut receiver = before.receiver;
     let mut place = before.place;
-    for i in 0..part.len() {
+    for byte in part {
         let took = podbox::take_byte(
             receiver,
             0,
-            part[i],
+            *byte,
             kind,
             podbox::FRESH_SETTINGS,
             memory,
@@ -144,7 +144,7 @@ fn list_part(
         receiver = took.receiver;
         used = lines::put_line(rt, &mut lines, used, place, answer)?;
         // It would begin again after 2^64 bytes, which no run reaches.
-        place = std::num::wrapping_add_u64(place, 1);
+        place = place.wrapping_add(1);
     }
     lines::write(rt, &lines, used)?;
     Ok(Stand { receiver, place })

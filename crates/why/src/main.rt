@@ -111,8 +111,8 @@ fn keep(message: &mut [u8], before: usize, part: &[u8]) -> usize
     ensures { Kept result message.new message.old before part.now }
 {
     let mut kept = before;
-    for i in 0..part.len() {
-        kept = keep_one(message, kept, part[i]);
+    for byte in part {
+        kept = keep_one(message, kept, *byte);
     }
     kept
 }
