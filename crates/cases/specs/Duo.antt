@@ -406,8 +406,8 @@ pub record TwoRuns : Type 0 where
   pub v' : WorldOf fresh_rules
   pub saids : SaidsOf fresh_rules
   pub saids' : SaidsOf fresh_rules
-  pub first_run : History fresh_rules fresh_world first_run v saids
-  pub second_run : History fresh_rules fresh_world second_run v' saids'
+  pub first_history : History fresh_rules fresh_world first_run v saids
+  pub second_history : History fresh_rules fresh_world second_run v' saids'
   pub alike : seen_after fresh_rules (box_players pod fresh_settings) S0 (λ s. Idle) [] first_run ≡ seen_after fresh_rules (box_players pod fresh_settings) S0 (λ s. Idle) [] second_run
   pub dump-left : DumpThen v.held
   pub knobs-left : KnobsThen v'.held

@@ -5,7 +5,7 @@ use mathlib.Core.List.{List, [], ◌∷◌}
 use mathlib.Core.Path.{◌≡◌, refl, sym, ◌∙◌, ap, subst}
 use lib.ListN.{length}
 use seplogic.Ra.Ura.{Ura}
-use seplogic.Ra.TreeShare.{full_share}
+use base.Fraction.{full_share}
 use package.mir.Syntax.{named}
 use package.mir.Val.{Val}
 use base.Fml.{Lft, GName, Share, Fml, fsep, feq, flft, fobs, fauth, flent, fobor}
@@ -27,7 +27,7 @@ module _ (R : RattleType) (x : MutBor (List R.Denot)) where
   b = x.ref_ptr.0
 
   abbrev o : ℕ
-  o = x.ptr.1
+  o = x.ref_ptr.1
 
   -- what it owns for a lifetime κ; that it is the slice at a name δ
   abbrev Owns : Lft → MutBor (List R.Denot) → List Val → Fml
@@ -65,5 +65,5 @@ module _ (R : RattleType) (x : MutBor (List R.Denot)) where
         move t (3 ∷ 0 ∷ 2 ∷ []) $ use3 𝓛 (later (‵ ((Arr (mem R) (length x.now)).own_at ys b o))) (slice_back 𝓛 R (ν ∷ []) δ ys (length x.now) b o) $
         await t soaks $ fsplit t $ drop t $ use1 𝓛 (‵ (row R full_share ys b o)) (whole_out 𝓛 R ys b o) $
         move t (1 ∷ []) $ fsplit t $ move t (1 ∷ []) $ fsplit t $ move t (3 ∷ 2 ∷ 0 ∷ 1 ∷ []) $ closes_slice t soaks R x.now ys e b o $ fjoin t $
-        pure_i t (mut_slice_at R (at_last x ys) vs) (tt, (tt, tt)) (is.0 ∙ ap (λ (n : ℕ). slice_val x.ptr n ∷ []) (sym e), subst (Room R) (sym e) is.1) $
+        pure_i t (mut_slice_at R (at_last x ys) vs) (tt, (tt, tt)) (is.0 ∙ ap (λ (n : ℕ). slice_val x.ref_ptr n ∷ []) (sym e), subst (Room R) (sym e) is.1) $
         fjoin t $ k e))

@@ -16,28 +16,28 @@ use Rattle.costerbloom.specs.Numbers.{reading_number, amp_call, amp_number}
 
 -- the number by whether the call brings a kind, and whether the model is known to it
 abbrev told : Bool → Bool → ℕ
-told is_kind known = cond is_kind (cond known 1 0) (65536 + 32)
+told a_kind known = cond a_kind (cond known 1 0) (65536 + 32)
 
 amp-told : (kind_number model : ℕ) → amp_number kind_number model ≡ told (is_kind kind_number) (is_known_model (kind_of kind_number) model)
 unfolding amp_number amp_call reading_number
 amp-told kind_number model = as_told (is_kind kind_number) (is_known_model (kind_of kind_number) model)
   where
-    as_told : (is_kind known : Bool) → reading_number (cond is_kind (Value (cond known 1 0)) (Refused 32)) ≡ told is_kind known
+    as_told : (a_kind known : Bool) → reading_number (cond a_kind (Value (cond known 1 0)) (Refused 32)) ≡ told a_kind known
     as_told true true = refl
     as_told true false = refl
     as_told false known = refl
 
-one_only : (is_kind known : Bool) → told is_kind known ≡ 1 → (is_kind ≡ true) × (known ≡ true)
+one_only : (a_kind known : Bool) → told a_kind known ≡ 1 → (a_kind ≡ true) × (known ≡ true)
 one_only true true e = (refl, refl)
 one_only true false e = absurd (omega arith)
 one_only false known e = absurd (omega arith)
 
-zero_only : (is_kind known : Bool) → told is_kind known ≡ 0 → (is_kind ≡ true) × (known ≡ false)
+zero_only : (a_kind known : Bool) → told a_kind known ≡ 0 → (a_kind ≡ true) × (known ≡ false)
 zero_only true true e = absurd (omega arith)
 zero_only true false e = (refl, refl)
 zero_only false known e = absurd (omega arith)
 
-refusal-only : (is_kind known : Bool) → told is_kind known ≡ 65536 + 32 → is_kind ≡ false
+refusal-only : (a_kind known : Bool) → told a_kind known ≡ 65536 + 32 → a_kind ≡ false
 refusal-only true true e = absurd (omega arith)
 refusal-only true false e = absurd (omega arith)
 refusal-only false known e = refl

@@ -113,9 +113,9 @@ all_set-at marks = (each marks, all marks)
     all (m ∷ marks) s = rw (eq-eqb m 1 (s 0 (omega arith))) (all marks (λ i h. s (suc i) (omega arith)))
 
 module _ (kind : Kind) (player : Player) (held : Held) (t : Target) (there : There t) where
-  pub goes_long : has_spare kind ≡ true → mark_count ≤ length held.marks
+  pub goes_long_lem : has_spare kind ≡ true → mark_count ≤ length held.marks
       → (goes_long kind player t held ≡ true) ↔ ((i : ℕ) → i < slots_for t → get_or held.marks (slot_for player t + i) 0 ≡ 1)
-  goes_long has k =
+  goes_long_lem has k =
       let slot = slot_for player t in
       let slots = slots_for t in
       let own = part_of slot slots held.marks in

@@ -38,7 +38,7 @@ use Rattle.demands.specs.Byte48.{selector}
 use Rattle.demands.proofs.Passed.{socket-known, take_passed}
 
 -- on any channel that is heard
-module _ (settings : Settings) (status : ℕ) (heard : is_heard settings status ≡ true) (is_controller : is_controller status ≡ true)
+module _ (settings : Settings) (status : ℕ) (heard : is_heard settings status ≡ true) (as_controller : is_controller status ≡ true)
     (player : Player) (held : Held) (m : memory_size Pod ≤ length held.memory)
     (f : Flanger (selector player held)) (controller value : ℕ) (rotary : RotaryMove controller) (h : value ≤ 127) where
   -- the message, however it was finished
@@ -49,16 +49,16 @@ module _ (settings : Settings) (status : ℕ) (heard : is_heard settings status 
       let edit = bytes_in Pod player Edit held in
       let long = edit-length Pod player held m in
       let at : get_or edit 46 0 ≡ selector player held = get_or-take (size_of Pod) (drop place held.memory) 46 0 (has_46 Pod) ∙ get_or-drop place held.memory 46 0 in
-      rw (heard, is_controller, rotary-under_flanger controller value edit rotary h (omega arith) (rw at f))
+      rw (heard, as_controller, rotary-under_flanger controller value edit rotary h (omega arith) (rw at f))
       (ap (λ (memory : List ℕ). outcome (refused 19) (held_of memory held.marks) []) (put_same place (size_of Pod) held.memory))
 
 -- the last byte of the move, on either socket, of the player's own edit buffer, whatever stands in the buffers: 19, and all else is as it was
-module _ (settings : Settings) (status : ℕ) (heard : is_heard settings status ≡ true) (is_controller : is_controller status ≡ true)
+module _ (settings : Settings) (status : ℕ) (heard : is_heard settings status ≡ true) (as_controller : is_controller status ≡ true)
     (s : Socket) (held : Held) (m : memory_size Pod ≤ length held.memory)
     (f : Flanger (selector (socket_player s) held)) (controller value : ℕ) (rotary : RotaryMove controller) (h : value ≤ 127) where
   upper : status / 16 ≡ 0xB
   unfolding is_controller
-  upper = eqb-true (status / 16) 0xB is_controller
+  upper = eqb-true (status / 16) 0xB as_controller
 
   takes_two : takes_one status ≡ false
   unfolding takes_one
@@ -80,5 +80,5 @@ module _ (settings : Settings) (status : ℕ) (heard : is_heard settings status 
         ne_eqb status 0 (λ e. omega (arith, upper)),
         takes_two,
         sender (socket_number s),
-        rotary-refused settings status heard is_controller (socket_player s) held m f controller value rotary h,
+        rotary-refused settings status heard as_controller (socket_player s) held m f controller value rotary h,
       ))

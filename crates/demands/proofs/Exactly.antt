@@ -35,7 +35,7 @@ use Rattle.podbox.specs.Messages.{message_does}
 use Rattle.podbox.specs.Whole.{is_framed, body_of, handed_does}
 use Rattle.podbox.specs.Box.{limit, take_tests, whole_tests, take_of, whole_of}
 use Rattle.podbox.proofs.Frames.{frame_body, framed_is}
-use Rattle.podbox.proofs.Orders.{handed_does}
+use Rattle.podbox.proofs.Orders.{handed_does_lem}
 use Rattle.podbox.proofs.Taking.{sender}
 use Rattle.demands.specs.Exactly.{Exactly}
 use Rattle.demands.proofs.Passed.{take_passed, whole_passed}
@@ -105,7 +105,7 @@ module _ (kind : Kind) (settings : Settings) (player : Player) (held : Held) whe
       → P (handed_does kind settings player message held)
   unfolding message_does
   by_frame message P when_refused when_framed =
-      rw (handed_does kind settings message player held)
+      rw (handed_does_lem kind settings message player held)
       (by P (ltb (longest kind) (length message)) _ _ (λ _. when_refused 10)
       (λ _. by P (is_framed message) _ _
       (λ t. let f = framed_is message t in

@@ -25,7 +25,7 @@ use Rattle.podbox.specs.Messages.{message_does}
 use Rattle.podbox.specs.Whole.{is_framed, body_of, handed_does}
 use Rattle.podbox.specs.Box.{limit, socket_player, box_rules}
 use Rattle.podbox.proofs.Frames.{frame, frame_body, frame_framed, framed_is}
-use Rattle.podbox.proofs.Orders.{handed_does}
+use Rattle.podbox.proofs.Orders.{handed_does_lem}
 use Rattle.demands.proofs.Sockets.{lawful}
 
 module _ (kind : Kind) (settings : Settings) where
@@ -41,15 +41,15 @@ module _ (kind : Kind) (settings : Settings) where
       go : (t : Bool) → leb (length (0xF0 ∷ rest)) (limit kind) ≡ t → message_does kind settings player held (closed (limit kind) (0xF0 ∷ rest)) ≡ handed_does kind settings player (frame rest) held
       go true h =
           let few = leb-true (length (0xF0 ∷ rest)) (limit kind) h in
-          rw (h, handed_does kind settings (frame rest) player held, le-ltb (longest kind) (length (frame rest)) (omega (arith, long)), frame_framed rest low, frame_body rest)
+          rw (h, handed_does_lem kind settings (frame rest) player held, le-ltb (longest kind) (length (frame rest)) (omega (arith, long)), frame_framed rest low, frame_body rest)
       go false h =
           let many = leb-false (length (0xF0 ∷ rest)) (limit kind) h in
-          rw (h, handed_does kind settings (frame rest) player held, lt-ltb (longest kind) (length (frame rest)) (omega (arith, long)))
+          rw (h, handed_does_lem kind settings (frame rest) player held, lt-ltb (longest kind) (length (frame rest)) (omega (arith, long)))
 
   -- A message that is not framed is 10 or 11 when it is handed over; on a socket its bytes finish what they finish (`box_demand3`).
   pub not_framed : (player : Player) (message : List ℕ) (held : Held) → is_framed message ≡ false
       → handed_does kind settings player message held ≡ cond (ltb (longest kind) (length message)) (refusing held 10) (refusing held 11)
-  not_framed player message held e = rw (handed_does kind settings message player held, e)
+  not_framed player message held e = rw (handed_does_lem kind settings message player held, e)
 
 module _ (kind_number : ℕ) (settings : Settings) (w v : WorldOf (box_rules kind_number settings)) (s : Socket) (saids : SaidsOf (box_rules kind_number settings)) where
   -- Whole equals byte by byte, for every message F0 .. F7 with nothing above 0x7F between, of any length: each byte before F7 is

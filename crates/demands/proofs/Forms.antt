@@ -33,7 +33,7 @@ use Rattle.podbox.specs.Messages.{message_does}
 use Rattle.podbox.specs.Whole.{is_framed, body_of, message_tests, message_order, handed_does}
 use Rattle.podbox.specs.Box.{limit}
 use Rattle.podbox.proofs.Frames.{frame, frame_body, frame_framed}
-use Rattle.podbox.proofs.Orders.{handed_does}
+use Rattle.podbox.proofs.Orders.{handed_does_lem}
 
 -- what an order does, by what it names
 module _ (kind : Kind) (settings : Settings) (player : Player) where
@@ -110,7 +110,7 @@ module _ (kind : Kind) (settings : Settings) where
       let few = o.short in
       let same : length body ≡ length (0xF0 ∷ rest) = ap (λ (b : List ℕ). length b) o.first in
       rw o.first (rw (
-        handed_does kind settings (frame rest) player held,
+        handed_does_lem kind settings (frame rest) player held,
         le-ltb (longest kind) (length (frame rest)) (omega (arith, length-append rest (0xF7 ∷ []))),
         frame_framed rest o.low,
         frame_body rest,

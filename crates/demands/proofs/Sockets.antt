@@ -65,15 +65,19 @@ module _ (kind_number : ℕ) (settings : Settings) where
   abbrev pub list_saids : ℕ → Held → List Move → List (Said Answer)
   list_saids player_number held moves = saids_of (box_rules kind_number settings) held (handing (hands_of settings (Moves player_number moves)))
 
+  -- what the box holds once the message of one move is carried out
+  abbrev after_move : ℕ → Held → Move → Held
+  after_move player_number held move = ((box_rules kind_number settings).carry held (FromDirect (FromList (socket_of player_number) (move_message settings move)))).held
+
   pub noted-length : (player_number : ℕ) (held : Held) (moves : List Move) → length (noted (list_saids player_number held moves)) ≡ length moves
   noted-length player_number held [] = refl
-  noted-length player_number held (move ∷ moves) = ap suc (noted-length player_number _ moves)
+  noted-length player_number held (move ∷ moves) = ap suc (noted-length player_number (after_move player_number held move) moves)
 
   none-sent : (player_number : ℕ) (held : Held) (moves : List Move) → sent_of answer_number (list_saids player_number held moves) ≡ []
   none-sent player_number held [] = refl
   none-sent player_number held (move ∷ moves) =
       rw (channel-quiet (kind_of kind_number) settings (socket_player (socket_of player_number)) held (0xB0 + settings.channel) move.controller move.value)
-      (none-sent player_number _ moves)
+      (none-sent player_number (after_move player_number held move) moves)
 
   away_direct : (x : Given) (held : Held) (out : List ℕ) → Away (box_rules kind_number settings) (direct_tests kind_number settings x held out)
   away_direct (Whole player_number message) held reply = (refl, (refl, (refl, (refl, (refl, (refl, (refl, tt)))))))

@@ -1,4 +1,4 @@
--- What one turn of each loop keeps: what is one_written, and then what the definition makes of the rest, is what it makes of the whole.
+-- What one turn of each loop keeps: what is written, and then what the definition makes of the rest, is what it makes of the whole.
 use Prim.Native.Nat.{ℕ, ◌+◌, ◌*◌, ◌/◌, ◌%◌, ◌≤◌, ◌<◌, max}
 use mathlib.Core.List.{List, ◌++◌}
 use mathlib.Core.Bool.{Bool, true, false, ◌&&◌}

@@ -34,10 +34,10 @@ not_over m n = go (leb m n) refl
     go false h = rw (h, lt-ltb n m (leb-false m n h))
 
 module _ (kind : Kind) (settings : Settings) (message : List ℕ) where
-  pub message_order : message_order kind settings message
+  pub message_order_lem : message_order kind settings message
       ≡ cond (ltb (longest kind) (length message)) (Refused (TooLong (longest kind))) (cond (is_framed message) (judge_of kind settings (body_of message)) (Refused (Ours (device_of kind))))
   unfolding message_order judge_of
-  message_order = rw (not_over (length message) (longest kind)) (steps (ltb (longest kind) (length message)) (is_framed message))
+  message_order_lem = rw (not_over (length message) (longest kind)) (steps (ltb (longest kind) (length message)) (is_framed message))
     where
       steps : (over framed : Bool)
           → judged_by (test (TooLong (longest kind)) (not over) ∷ test (Ours (device_of kind)) (framed && has_form kind (body_of message)) ∷ further_tests kind settings (body_of message)) (body_order (body_of message))
@@ -46,12 +46,12 @@ module _ (kind : Kind) (settings : Settings) (message : List ℕ) where
       steps false true = refl
       steps false false = refl
 
-  pub handed_does : (player : Player) (held : Held) → handed_does kind settings player message held
+  pub handed_does_lem : (player : Player) (held : Held) → handed_does kind settings player message held
       ≡ cond (ltb (longest kind) (length message)) (refusing held 10)
       (cond (is_framed message) (message_does kind settings player held (SysEx (body_of message))) (refusing held 11))
   unfolding message_does order_does
-  handed_does player held =
-      ap (λ (o : Order). order_does kind settings player o (body_of message) held) message_order ∙ steps (ltb (longest kind) (length message)) (is_framed message)
+  handed_does_lem player held =
+      ap (λ (o : Order). order_does kind settings player o (body_of message) held) message_order_lem ∙ steps (ltb (longest kind) (length message)) (is_framed message)
     where
       steps : (over framed : Bool)
           → order_does kind settings player (cond over (Refused (TooLong (longest kind))) (cond framed (judge_of kind settings (body_of message)) (Refused (Ours (device_of kind))))) (body_of message) held
@@ -70,8 +70,8 @@ first-bytes kind n more message = go (leb (length message) n) refl
         let many = leb-false (length message) n h in
         let kept = length-take n message in
         rw (
-          message_order kind fresh_settings (take n message),
-          message_order kind fresh_settings message,
+          message_order_lem kind fresh_settings (take n message),
+          message_order_lem kind fresh_settings message,
           lt-ltb (longest kind) (length message) (omega arith),
           lt-ltb (longest kind) (length (take n message)) (omega arith),
         )

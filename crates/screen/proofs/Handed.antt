@@ -19,8 +19,8 @@ use Rattle.screen.specs.Screen.{screen_tests, asked_part, screen_of}
 use Rattle.screen.proofs.Choices.{shared-inside, own_inside}
 
 -- the place at 0 is where the slice begins
-at_start : (slice : Slice) → place_in slice 0 ≡ slice.ptr
-at_start slice = λ i. (slice.ptr.0, zero-add slice.ptr.1 i)
+at_start : (slice : Slice) → place_in slice 0 ≡ slice.ref_ptr
+at_start slice = λ i. (slice.ref_ptr.0, zero-add slice.ref_ptr.1 i)
 
 module _ (kind_number program own player : ℕ) (programs buffer : Slice) where
   abbrev tests : List (Test ℕ)
@@ -57,9 +57,9 @@ module _ (kind_number program own player : ℕ) (programs buffer : Slice) where
   none_fails = screen_cases (λ (s : Shown). s.number ≡ 0 → AllHold tests) (λ all _. all) (λ number other e. absurd (other e))
 
   -- a refusal: no bytes, and they begin where the programs begin
-  pub refused_empty : (handed.number ≡ 0 → ⊥) → (handed.part.bytes ≡ []) × (handed.part.place ≡ programs.ptr)
+  pub refused_empty : (handed.number ≡ 0 → ⊥) → (handed.part.bytes ≡ []) × (handed.part.place ≡ programs.ref_ptr)
   refused_empty =
-      screen_cases (λ (s : Shown). (s.number ≡ 0 → ⊥) → (s.part.bytes ≡ []) × (s.part.place ≡ programs.ptr))
+      screen_cases (λ (s : Shown). (s.number ≡ 0 → ⊥) → (s.part.bytes ≡ []) × (s.part.place ≡ programs.ref_ptr))
       (λ _ other. absurd (other refl))
       (λ number _ _. (refl, at_start programs))
 

@@ -12,9 +12,8 @@ returns-then-halves-bytes c = search tests
 pub returns-then-all_at_most : goal.returns-then-all_at_most
 unfolding join_into
 returns-then-all_at_most c =
-    let k = c in
-    let same = join_any_halves k.args.halves.now (sym k.all_at_most.ensures ∙ k.if-all_at_most.true) in
-    search (tests, ← k.all_at_most.ensures, k.if-all_at_most.true, c.join_all.ensures, same)
+    let same = join_any_halves c.args.halves.now (sym c.all_at_most.ensures ∙ c.if-all_at_most.true) in
+    search (tests, ← c.all_at_most.ensures, c.if-all_at_most.true, c.join_all.ensures, same)
 
 pub returns : goal.returns
 unfolding join_into

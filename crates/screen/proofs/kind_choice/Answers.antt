@@ -14,8 +14,7 @@ returns-then-buffer-size c = search (tests, ← c.size-size.ensures)
 pub returns-then-is_player : goal.returns-then-is_player
 unfolding kind_choice asked_choice
 returns-then-is_player c =
-    let k = c in
-    search (tests, ← k.size-size.ensures, ← k.is_player.ensures, c.if-is_player.true, c.asked.ensures)
+    search (tests, ← c.size-size.ensures, ← c.is_player.ensures, c.if-is_player.true, c.asked.ensures)
 
 pub returns : goal.returns
 unfolding kind_choice

@@ -8,8 +8,7 @@ use Rattle.screen.proofs.screen.Goals as goal
 
 pub returns-in-Refused : goal.returns-in-Refused
 returns-in-Refused c =
-    let k = c in
-    rw (screen-chosen, ← k.chosen.ensures, c.in-Refused.is)
+    rw (screen-chosen, ← c.chosen.ensures, c.in-Refused.is)
 
 pub overflow_add-result : goal.overflow_add-result
 overflow_add-result c =
@@ -18,24 +17,20 @@ overflow_add-result c =
 
 pub slice_bounds-result-end-in-Shared : goal.slice_bounds-result-end-in-Shared
 slice_bounds-result-end-in-Shared c =
-    let k = c in
-    let sized = k.size-size.ensures ∙ ap size_of k.kind_of.ensures in
-    let inside = shared_lies _ _ _ _ _ _ k.chosen.ensures c.in-Shared.is in
+    let sized = c.size-size.ensures ∙ ap size_of c.kind_of.ensures in
+    let inside = shared_lies _ _ _ _ _ _ c.chosen.ensures c.in-Shared.is in
     omega arith
 
 pub returns-in-Shared : goal.returns-in-Shared
 returns-in-Shared c =
-    let k = c in
-    rw (screen-chosen, ← k.chosen.ensures, c.in-Shared.is, ← k.kind_of.ensures, ← k.size-size.ensures, add-sub_cancel_left)
+    rw (screen-chosen, ← c.chosen.ensures, c.in-Shared.is, ← c.kind_of.ensures, ← c.size-size.ensures, add-sub_cancel_left)
 
 pub slice_bounds-result-end-in-Own : goal.slice_bounds-result-end-in-Own
 slice_bounds-result-end-in-Own c =
-    let k = c in
-    let sized = k.size-size.ensures ∙ ap size_of k.kind_of.ensures in
-    let inside = own_lies _ _ _ _ _ _ k.chosen.ensures c.in-Own.is in
+    let sized = c.size-size.ensures ∙ ap size_of c.kind_of.ensures in
+    let inside = own_lies _ _ _ _ _ _ c.chosen.ensures c.in-Own.is in
     omega arith
 
 pub returns-in-Own : goal.returns-in-Own
 returns-in-Own c =
-    let k = c in
-    rw (screen-chosen, ← k.chosen.ensures, c.in-Own.is, ← k.kind_of.ensures, ← k.size-size.ensures, sub-zero)
+    rw (screen-chosen, ← c.chosen.ensures, c.in-Own.is, ← c.kind_of.ensures, ← c.size-size.ensures, sub-zero)

@@ -5,31 +5,25 @@ use Rattle.framing.proofs.soundness.sound_clear.Goals as goal
 
 pub returns-then-receiver-ne0 : goal.returns-then-receiver-ne0
 returns-then-receiver-ne0 c =
-    let a = c in
-    shut_not a.args.limit a.args.receiver (λ e. omega (arith, a.requires.0)) (λ f. let flag = f.flag in omega (arith, c.if-receiver-ne0.true, a.requires.3))
+    shut_not c.args.limit c.args.receiver (λ e. omega (arith, c.requires.0)) (λ f. let flag = f.flag in omega (arith, c.if-receiver-ne0.true, c.requires.3))
 
 pub returns-then-receiver-ne0-2 : goal.returns-then-receiver-ne0-2
 returns-then-receiver-ne0-2 c =
-    let a = c in
-    shut_not a.args.limit a.args.receiver (λ e. omega (arith, a.requires.0)) (λ f. c.if-receiver-ne0-2.true (f.clear c.if-receiver-ne0.false))
+    shut_not c.args.limit c.args.receiver (λ e. omega (arith, c.requires.0)) (λ f. c.if-receiver-ne0-2.true (f.clear c.if-receiver-ne0.false))
 
 pub returns-then-receiver-eq0 : goal.returns-then-receiver-eq0
 returns-then-receiver-eq0 c =
-    let a = c in
-    idle_sound a.args.limit a.args.receiver a.requires.0 a.requires.1 a.requires.2 c.if-receiver-ne0.false c.if-receiver-ne0-2.false c.if-receiver-eq0.true
+    idle_sound c.args.limit c.args.receiver c.requires.0 c.requires.1 c.requires.2 c.if-receiver-ne0.false c.if-receiver-ne0-2.false c.if-receiver-eq0.true
 
 pub returns-then-receiver-lt128 : goal.returns-then-receiver-lt128
 returns-then-receiver-lt128 c =
-    let a = c in
-    shut_not a.args.limit a.args.receiver (λ e. omega (arith, a.requires.0)) (λ f. let status = f.status c.if-receiver-eq0.false in omega (arith, c.if-receiver-lt128.true))
+    shut_not c.args.limit c.args.receiver (λ e. omega (arith, c.requires.0)) (λ f. let status = f.status c.if-receiver-eq0.false in omega (arith, c.if-receiver-lt128.true))
 
 pub returns-then-receiver-gt239 : goal.returns-then-receiver-gt239
 returns-then-receiver-gt239 c =
-    let a = c in
-    shut_not a.args.limit a.args.receiver (λ e. omega (arith, a.requires.0)) (λ f. let top = f.top in omega (arith, c.if-receiver-gt239.true))
+    shut_not c.args.limit c.args.receiver (λ e. omega (arith, c.requires.0)) (λ f. let top = f.top in omega (arith, c.if-receiver-gt239.true))
 
 pub returns : goal.returns
 returns c =
-    let a = c in
-    under-sound a.args.limit a.args.receiver a.requires.0 a.requires.1 a.requires.2 c.if-receiver-ne0.false c.if-receiver-ne0-2.false
+    under-sound c.args.limit c.args.receiver c.requires.0 c.requires.1 c.requires.2 c.if-receiver-ne0.false c.if-receiver-ne0-2.false
     c.if-receiver-lt128.false c.if-receiver-gt239.false

@@ -6,10 +6,8 @@ use Rattle.framing.proofs.soundness.sound_held.Goals as goal
 
 pub returns-then-receiver-gt127 : goal.returns-then-receiver-gt127
 returns-then-receiver-gt127 c =
-    let a = c in
-    shut_not a.args.limit a.args.receiver (λ e. omega (arith, a.requires.0)) (λ f. let low = f.low in omega (arith, c.if-receiver-gt127.true))
+    shut_not c.args.limit c.args.receiver (λ e. omega (arith, c.requires.0)) (λ f. let low = f.low in omega (arith, c.if-receiver-gt127.true))
 
 pub returns : goal.returns
 returns c =
-    let a = c in
-    c.takes_two.ensures ∙ held_sound a.args.limit a.args.receiver a.requires.0 a.requires.1 a.requires.2 a.requires.3 c.if-receiver-gt127.false
+    c.takes_two.ensures ∙ held_sound c.args.limit c.args.receiver c.requires.0 c.requires.1 c.requires.2 c.requires.3 c.if-receiver-gt127.false

@@ -5,49 +5,40 @@ use Rattle.framing.proofs.soundness.sound_open.Goals as goal
 
 pub returns-then-receiver-lt1 : goal.returns-then-receiver-lt1
 returns-then-receiver-lt1 c =
-    let a = c in
-    open_not a.args.limit a.args.receiver a.requires (λ f. let some = f.some in omega (arith, c.if-receiver-lt1.true))
+    open_not c.args.limit c.args.receiver c.requires (λ f. let some = f.some in omega (arith, c.if-receiver-lt1.true))
 
 pub returns-then-limit-receiver : goal.returns-then-limit-receiver
 returns-then-limit-receiver c =
-    let a = c in
-    open_not a.args.limit a.args.receiver a.requires (λ f. let fits = f.fits in omega (arith, c.if-limit-receiver.true))
+    open_not c.args.limit c.args.receiver c.requires (λ f. let fits = f.fits in omega (arith, c.if-limit-receiver.true))
 
 pub returns-then-receiver-ne0 : goal.returns-then-receiver-ne0
 returns-then-receiver-ne0 c =
-    let a = c in
-    open_not a.args.limit a.args.receiver a.requires (λ f. c.if-receiver-ne0.true f.none)
+    open_not c.args.limit c.args.receiver c.requires (λ f. c.if-receiver-ne0.true f.none)
 
 pub returns-then-receiver-ne0-2 : goal.returns-then-receiver-ne0-2
 returns-then-receiver-ne0-2 c =
-    let a = c in
-    open_not a.args.limit a.args.receiver a.requires (λ f. c.if-receiver-ne0-2.true f.empty)
+    open_not c.args.limit c.args.receiver c.requires (λ f. c.if-receiver-ne0-2.true f.empty)
 
 pub returns-then-receiver-ne0-3 : goal.returns-then-receiver-ne0-3
 returns-then-receiver-ne0-3 c =
-    let a = c in
-    open_not a.args.limit a.args.receiver a.requires (λ f. c.if-receiver-ne0-3.true f.clear)
+    open_not c.args.limit c.args.receiver c.requires (λ f. c.if-receiver-ne0-3.true f.clear)
 
 pub returns-then-receiver-eq0 : goal.returns-then-receiver-eq0
 returns-then-receiver-eq0 c =
-    let a = c in
-    open_sound a.args.limit a.args.receiver a.requires
+    open_sound c.args.limit c.args.receiver c.requires
     c.if-receiver-ne0.false c.if-receiver-ne0-2.false c.if-receiver-ne0-3.false c.if-receiver-lt1.false c.if-limit-receiver.false
     c.if-receiver-eq0.true
 
 pub returns-then-receiver-ne1 : goal.returns-then-receiver-ne1
 returns-then-receiver-ne1 c =
-    let a = c in
-    open_not a.args.limit a.args.receiver a.requires (λ f. let mark = f.mark in omega (arith, c.if-receiver-ne1.true, c.if-receiver-eq0.false))
+    open_not c.args.limit c.args.receiver c.requires (λ f. let mark = f.mark in omega (arith, c.if-receiver-ne1.true, c.if-receiver-eq0.false))
 
 pub returns-then-receiver-limit : goal.returns-then-receiver-limit
 returns-then-receiver-limit c =
-    let a = c in
-    long_sound a.args.limit a.args.receiver a.requires
+    long_sound c.args.limit c.args.receiver c.requires
     c.if-receiver-ne0.false c.if-receiver-ne0-2.false c.if-receiver-ne0-3.false c.if-receiver-lt1.false c.if-limit-receiver.false
     c.if-receiver-ne1.false c.if-receiver-limit.true
 
 pub returns : goal.returns
 returns c =
-    let a = c in
-    open_not a.args.limit a.args.receiver a.requires (λ f. c.if-receiver-limit.false (f.full c.if-receiver-ne1.false))
+    open_not c.args.limit c.args.receiver c.requires (λ f. c.if-receiver-limit.false (f.full c.if-receiver-ne1.false))

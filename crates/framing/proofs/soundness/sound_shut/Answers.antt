@@ -4,18 +4,15 @@ use Rattle.framing.proofs.soundness.sound_shut.Goals as goal
 
 pub returns-then-receiver-ne0 : goal.returns-then-receiver-ne0
 returns-then-receiver-ne0 c =
-    let a = c in
-    shut_not a.args.limit a.args.receiver a.requires (λ f. c.if-receiver-ne0.true f.shut)
+    shut_not c.args.limit c.args.receiver c.requires (λ f. c.if-receiver-ne0.true f.shut)
 
 pub returns-then-receiver-ne0-2 : goal.returns-then-receiver-ne0-2
 returns-then-receiver-ne0-2 c =
-    let a = c in
-    shut_not a.args.limit a.args.receiver a.requires (λ f. c.if-receiver-ne0-2.true f.nothing)
+    shut_not c.args.limit c.args.receiver c.requires (λ f. c.if-receiver-ne0-2.true f.nothing)
 
 pub returns-then-receiver-ne0-3 : goal.returns-then-receiver-ne0-3
 returns-then-receiver-ne0-3 c =
-    let a = c in
-    shut_not a.args.limit a.args.receiver a.requires (λ f. c.if-receiver-ne0-3.true f.short)
+    shut_not c.args.limit c.args.receiver c.requires (λ f. c.if-receiver-ne0-3.true f.short)
 
 pub sound_held-requires : goal.sound_held-requires
 sound_held-requires c = (c.if-receiver-ne0.false, c.if-receiver-ne0-2.false, c.if-receiver-ne0-3.false, c.if-receiver-eq1.true)

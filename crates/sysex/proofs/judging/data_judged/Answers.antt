@@ -9,7 +9,7 @@ pub returns-then-byte_at-ne-VERSION : goal.returns-then-byte_at-ne-VERSION
 returns-then-byte_at-ne-VERSION c = search (tests, ← c.version_place-version.ensures, ← c.byte_at.ensures)
 
 pub returns-then-all_at_most : goal.returns-then-all_at_most
-returns-then-all_at_most c = let k = c in rw (← k.version_place-version.ensures, ← k.byte_at.ensures, eq-eqb _ 0 k.if-byte_at-ne-VERSION.false, ← to_end (k.version_place-version.result + 1) k.args.body.now, ← c.all_at_most.ensures, c.if-all_at_most.true)
+returns-then-all_at_most c = rw (← c.version_place-version.ensures, ← c.byte_at.ensures, eq-eqb _ 0 c.if-byte_at-ne-VERSION.false, ← to_end (c.version_place-version.result + 1) c.args.body.now, ← c.all_at_most.ensures, c.if-all_at_most.true)
 
 pub returns : goal.returns
-returns c = let k = c in rw (← k.version_place-version.ensures, ← k.byte_at.ensures, eq-eqb _ 0 k.if-byte_at-ne-VERSION.false, ← to_end (k.version_place-version.result + 1) k.args.body.now, ← c.all_at_most.ensures, c.if-all_at_most.false)
+returns c = rw (← c.version_place-version.ensures, ← c.byte_at.ensures, eq-eqb _ 0 c.if-byte_at-ne-VERSION.false, ← to_end (c.version_place-version.result + 1) c.args.body.now, ← c.all_at_most.ensures, c.if-all_at_most.false)

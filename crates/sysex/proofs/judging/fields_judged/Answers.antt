@@ -6,7 +6,7 @@ use Rattle.sysex.specs.Forms.{body_length}
 use Rattle.sysex.proofs.judging.fields_judged.Goals as goal
 
 pub returns-then-opcode-eq-REQUEST : goal.returns-then-opcode-eq-REQUEST
-returns-then-opcode-eq-REQUEST c = let k = c in search (tests, ← k.byte_at-number.ensures, ← k.has_program.ensures, k.if-has_program.true, c.order-asked.ensures)
+returns-then-opcode-eq-REQUEST c = search (tests, ← c.byte_at-number.ensures, ← c.has_program.ensures, c.if-has_program.true, c.order-asked.ensures)
 
 pub data_judged-requires : goal.data_judged-requires
 unfolding body_length
@@ -14,8 +14,7 @@ data_judged-requires c = let e = rw (ne_eqb _ 0 c.if-opcode-eq-REQUEST.false) at
 
 pub returns-then-has_program : goal.returns-then-has_program
 returns-then-has_program c =
-    let k = c in
-    search (tests, ← k.byte_at-number.ensures, ← k.has_program.ensures, k.if-has_program.true, ← c.order-asked.ensures, c.data_judged.ensures)
+    search (tests, ← c.byte_at-number.ensures, ← c.has_program.ensures, c.if-has_program.true, ← c.order-asked.ensures, c.data_judged.ensures)
 
 pub returns : goal.returns
 returns c = search (tests, ← c.byte_at-number.ensures, ← c.has_program.ensures, c.if-has_program.false)

@@ -12,13 +12,11 @@ slice_bounds-starts-end c = rw c.header-header.ensures
 pub returns-then-starts : goal.returns-then-starts
 unfolding judge_of has_form further_tests body_order
 returns-then-starts c =
-    let k = c in
-    let starts = rw k.header-header.ensures at k.starts.ensures in
-    rw (← k.is_identity.ensures, k.if-is_identity.false, ← starts, c.if-starts.true) c.form_judged.ensures
+    let starts = rw c.header-header.ensures at c.starts.ensures in
+    rw (← c.is_identity.ensures, c.if-is_identity.false, ← starts, c.if-starts.true) c.form_judged.ensures
 
 pub returns : goal.returns
 unfolding judge_of has_form further_tests body_order
 returns c =
-    let k = c in
-    let starts = rw k.header-header.ensures at k.starts.ensures in
-    rw (← k.is_identity.ensures, k.if-is_identity.false, ← starts, c.if-starts.false, c.device.ensures)
+    let starts = rw c.header-header.ensures at c.starts.ensures in
+    rw (← c.is_identity.ensures, c.if-is_identity.false, ← starts, c.if-starts.false, c.device.ensures)
