@@ -23,7 +23,13 @@ pub(crate) fn put_line(
     }
     let placed = put_field(rt, lines, used, place, b'\t')?;
     let numbered = put_field(rt, lines, placed, number as u64, b'\t')?;
-    put_field(rt, lines, numbered, sysex::answer_length(answer) as u64, b'\n')
+    put_field(
+        rt,
+        lines,
+        numbered,
+        sysex::answer_length(answer) as u64,
+        b'\n',
+    )
 }
 
 // A number, and the byte that closes its field.

@@ -4,8 +4,8 @@
 
 mod line;
 
-ghost use Rattle.std.specs.Prelude.{◌≤◌, [], ◌∷◌, ◌≡◌, length};
-ghost use Rattle.why.specs.Kept.{buffer_size, Kept, Reads};
+ghost use Rattle.std.specs.Prelude.{◌<◌, ◌≤◌, [], ◌∷◌, ◌≡◌, length};
+ghost use Rattle.why.specs.Kept.{buffer_size, Kept, Reads, ReadsKnown};
 
 use kinds::{BASS_POD, Kind, NO_KIND, POD, POD_PRO};
 use std::env::{Env, FillError};
@@ -88,9 +88,10 @@ fn tell(rt: &impl Print, message: &[u8], kept: usize, kind: Kind) -> io::Result<
 // The input is read to its end, so that whoever writes it is not cut off. A proved loop has to end, and nothing says that
 // an input does: so its turns are counted, up to a number that no run reaches. What is kept in a buffer of this size has
 // the reason of all that came: `reason_of-all`.
-fn read_all(reader: &mut impl Read, message: &mut [u8], part: &mut [u8]) -> Input
+fn read_all<R: Read>(reader: &mut R, message: &mut [u8], part: &mut [u8]) -> Input
     requires { length message.old ≡ buffer_size }
-    ensures { Reads result message.new message.old }
+    ensures steps { Reads result message.new message.old }
+    ensures known { 0 < length part.old → ReadsKnown result message.new message.old (R.remaining reader.old) }
 {
     let mut kept = 0;
     for _ in 0..u64::MAX {
