@@ -25,8 +25,7 @@ struct Handed {
 }
 
 // The receiver is read whole, and the next one is stored whole: all else is the work of `take`.
-#[unsafe(no_mangle)]
-pub extern "C" fn costerbloom_take(
+pub fn costerbloom_take(
     receiver: &mut Receiver,
     socket: u32,
     byte: u8,
@@ -83,8 +82,7 @@ fn take(
 }
 
 // A whole message from the panel, of a player.
-#[unsafe(no_mangle)]
-pub extern "C" fn costerbloom_whole(
+pub fn costerbloom_whole(
     message: &[u8],
     player: u32,
     kind: u32,
@@ -106,8 +104,7 @@ pub extern "C" fn costerbloom_whole(
 }
 
 // The controller's number for a value.
-#[unsafe(no_mangle)]
-pub extern "C" fn costerbloom_scale(controller: u32, value: u32, kind: u32) -> u32
+pub fn costerbloom_scale(controller: u32, value: u32, kind: u32) -> u32
     ensures { result ≡ scale_number kind controller value }
 {
     let reading = scale(controller, value, kind);
@@ -125,8 +122,7 @@ fn scale(controller: u32, value: u32, kind: u32) -> Reading
 }
 
 // The value that a player's edit buffer shows for a controller.
-#[unsafe(no_mangle)]
-pub extern "C" fn costerbloom_back(controller: u32, player: u32, kind: u32, memory: &[u8]) -> u32
+pub fn costerbloom_back(controller: u32, player: u32, kind: u32, memory: &[u8]) -> u32
     ensures { result ≡ back_number kind player controller memory.now }
 {
     let reading = back(controller, player, kind, memory);
@@ -158,8 +154,7 @@ fn shown(controller: u32, player: u32, kind: Kind, memory: &[u8]) -> Reading
 }
 
 // Whether an amp model is known: 1 where it is, 0 where not.
-#[unsafe(no_mangle)]
-pub extern "C" fn costerbloom_amp(model: u32, kind: u32) -> u32
+pub fn costerbloom_amp(model: u32, kind: u32) -> u32
     ensures { result ≡ amp_number kind model }
 {
     let reading = amp(model, kind);
@@ -181,8 +176,7 @@ fn amp(model: u32, kind: u32) -> Reading
 
 // What the screen shows, written where C lends a place for it: no exported function may return a reference. The place holds
 // a valid part before the call, as `{ programs, 0 }`.
-#[unsafe(no_mangle)]
-pub extern "C" fn costerbloom_screen<'a>(
+pub fn costerbloom_screen<'a>(
     part: &mut &'a [u8],
     program: u32,
     own: u32,

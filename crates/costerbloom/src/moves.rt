@@ -16,8 +16,7 @@ struct Allowed {
 }
 
 // The moves are read one by one: all else is the work of `allow` and `make`.
-#[unsafe(no_mangle)]
-pub extern "C" fn costerbloom_moves(
+pub fn costerbloom_moves(
     moves: &[Move],
     player: u32,
     kind: u32,

@@ -41,7 +41,8 @@ returns c =
     let place = e.ensures in
     let count = s.ensures in
     let told = c.change_number.ensures in
-    let applied = c.apply-change.ensures in record { by_index = (λ (marks : List ℕ).
+    let applied = c.apply-change.ensures in record {
+      by_index = (λ (marks : List ℕ).
           let held = held_of a.memory.now marks in
           rw told
           (ap (put a.memory.now marks e.result s.result) applied
@@ -51,4 +52,6 @@ returns c =
           (held_of (put_part (edit_place a.kind a.player) n (apply_of a.kind a.number a.value (take n (drop (edit_place a.kind a.player) a.memory.now))).edit a.memory.now) marks) [])
           (add-sub_cancel_left (edit_place a.kind a.player) (size_of a.kind))
           ∙ ap (λ (answer : Answer). outcome answer (put_in a.kind a.player Edit (apply_of a.kind a.number a.value (bytes_in a.kind a.player Edit held)).edit held) [])
-          (move-told a.kind a.number a.value (bytes_in a.kind a.player Edit held)))); lower_bound = rw (told ∙ ap (λ (x : Changed). change_number x.answer) applied) (move_least _ _ _ _) }
+          (move-told a.kind a.number a.value (bytes_in a.kind a.player Edit held))));
+      lower_bound = rw (told ∙ ap (λ (x : Changed). change_number x.answer) applied) (move_least _ _ _ _);
+    }
