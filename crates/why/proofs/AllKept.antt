@@ -21,7 +21,7 @@ part_behind (next h s) k = next h (part_behind s k)
 kept_from : {count : ℕ} {message : List ℕ} {parts : List (List ℕ)} {before : ℕ} {entry : List ℕ} → Steps count message parts before entry → before ≤ length entry
     → Kept count message entry before (flatten parts)
 unfolding flatten
-kept_from {count} {message = message} done fits = record { places = refl; counted = omega arith; first = none_yet count message [] }
+kept_from {count} {message = message} done fits = record { places = refl; counted = omega arith; first = none_yet count message }
 kept_from (next {between} {before} {exit} {entry} {part} {parts} k s) fits =
     let rest = kept_from s (omega (arith, k.counted, k.places)) in
     let n = length entry in

@@ -1,5 +1,5 @@
 -- As many of the first bytes that came as there are places.
-use Rattle.std.proofs.Common.{ℕ, ◌≡◌, ◌+◌, ◌++◌, min, length, take}
+use Rattle.std.proofs.Common.{◌≡◌, ◌+◌, ◌++◌, min, length, take}
 use Rattle.why.proofs.keep.Given as goal
 
 abbrev pub invariant-loop-byte : goal.invariant-loop-byte

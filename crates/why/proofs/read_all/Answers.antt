@@ -1,5 +1,5 @@
 -- At the end of the input nothing is left, so the parts of the steps are all of it.
-use Rattle.std.proofs.Common.{[], ap, length, take, arith}
+use Rattle.std.proofs.Common.{[], ap, take, arith}
 use Rattle.why.specs.Kept.{done}
 use Rattle.why.proofs.AllKept.{part_behind, all-kept}
 use Rattle.why.proofs.Known.{none_read, one_read, all_read}
