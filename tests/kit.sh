@@ -15,6 +15,15 @@ is_new() {
     [ -f "$1" ] && [ -z "$(find crates.txt crates -path 'crates/*/out' -prune -o -type f \( -name '*.rt' -o -name '*.antt' -o -name crates.txt \) -newer "$1" -print -quit)" ]
 }
 
+# copy_crates FOLDER: what rt reads of the crates, for another try elsewhere.
+copy_crates() {
+    local folder
+    for folder in crates/*/src crates/*/specs crates/*/proofs; do
+        [ ! -d "$folder" ] || cp -r --parents "$folder" "$1"
+    done
+    cp crates.txt "$1"
+}
+
 # program_of NAME: where a program of crates/ stands once it is proved and built, by rt ci or by build_program.
 program_of() {
     echo "crates/$1/out/$1"
