@@ -10,7 +10,7 @@ pages."""
 import pathlib
 import re
 
-WORD = re.compile(r"(?<![0-9A-Za-z_'\-])[a-z][0-9A-Za-z_'\-]*")
+WORD = re.compile(r"(?<![0-9A-Za-z_'\\\-])[a-z][0-9A-Za-z_'\-]*")
 DECLARED = re.compile(r"(?:abbrev |unfoldable )?(?:pub )?(?:data |record |ruleset |abbrev )?([a-z][^\s:]*) (?::|=)")
 # made by Rattle, in today's spelling already
 MADE = {"uint_Tells", "uint_Makes", "mut_Tells", "mut_slice_Tells", "shr_slice_Tells"}
@@ -103,7 +103,7 @@ def main():
             turn_file(file, names, "--")
         for file in edits:
             # port.py turns no edit: the names that it has turned elsewhere are turned here
-            turn_file(file, camel(file.read_text()) | names, "")
+            turn_file(file, camel(file.read_text()) | names, "\n")
         for file in sources:
             turn_file(file, names, "//")
         for file in pages:

@@ -34,17 +34,6 @@ module _ {A : Type 0} (other : A) where
       let p = both (test e.key e.value) (all_pass test es) t in
       by (λ x. test key x ≡ true) (eqb key e.key) _ _ (λ same. rw (eqb-true key e.key same) p.0) (λ _. found test o es p.1 key)
 
-  -- what is known where no arm of a match over the list's keys fits: `Known`, and of each key that it is another
-  abbrev pub NoneFits : ℕ → List (Entry A) → Type 0 → Type 0
-  NoneFits key [] Known = Known
-  NoneFits key (e ∷ es) Known = NoneFits key es (Known × (key ≡ e.key → ⊥))
-
-  pub not_found : (key : ℕ) (es : List (Entry A)) (Known : Type 0) → NoneFits key es Known → Known × (find other key es ≡ other)
-  not_found key [] Known m = (m, refl)
-  not_found key (e ∷ es) Known m =
-      let p = not_found key es (Known × (key ≡ e.key → ⊥)) m in
-      (p.0.0, rw (ne_eqb key e.key p.0.1) p.1)
-
 -- Facts of every row, each by one test that antt computes over the kinds' lists and the row that is in none.
 abbrev kind_passes : (Kind → Row → Bool) → Kind → Bool
 kind_passes test kind = test kind unlisted && all_pass (λ _. test kind) (rows kind)

@@ -1,5 +1,5 @@
 // The buffers that calls are lent, each longer than a call of any kind needs, and how much of each is lent.
-ghost use Rattle.io.specs.Counts.{IsPrefixLen};
+ghost use Rattle.std.specs.Prelude.{◌≡◌, ◌≤◌, length, min};
 
 use crate::script;
 use crate::script::Command;
@@ -71,7 +71,8 @@ pub(crate) fn lent_by(before: Lent, command: Command) -> Lent {
 
 // A length, or a place, in a buffer: one above its own length is taken as that.
 pub(crate) fn within(number: u16, buffer: &[u8]) -> usize
-    ensures { IsPrefixLen result buffer.now }
+    ensures in_bounds { result ≤ length buffer.now }
+    ensures value { result ≡ min number (length buffer.now) }
 {
-    io::count(number as isize, buffer)
+    usize::from(number).min(buffer.len())
 }

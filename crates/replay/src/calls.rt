@@ -3,9 +3,12 @@ use crate::buffers::{Buffer, Marks, Memory};
 use crate::desk::Desk;
 use crate::{buffers, desk, print};
 use podbox::{Move, Took};
+use std::io;
+use std::io::Write;
 use sysex::Answer;
 
 pub(crate) fn whole(
+    out: &mut impl Write,
     desk: Desk,
     message: &[u8],
     memory: &mut [u8],
@@ -13,7 +16,7 @@ pub(crate) fn whole(
     receive0: &[u8],
     receive1: &[u8],
     reply: &mut [u8],
-) -> Desk {
+) -> io::Result<Desk> {
     let memory_end = buffers::within(desk.lent.memory, memory);
     let marks_end = buffers::within(desk.lent.marks, marks);
     let reply_end = buffers::within(desk.lent.reply, reply);
@@ -26,12 +29,15 @@ pub(crate) fn whole(
         &mut marks[..marks_end],
         &mut reply[..reply_end],
     );
-    print::answered(b'W', desk, answer, memory, marks, receive0, receive1, reply);
-    desk::counted(desk)
+    print::answered(
+        out, b'W', desk, answer, memory, marks, receive0, receive1, reply,
+    )?;
+    Ok(desk::counted(desk))
 }
 
 // Byte after byte.
 pub(crate) fn on_socket(
+    out: &mut impl Write,
     before: Desk,
     socket: u32,
     bytes: &[u8],
@@ -40,18 +46,19 @@ pub(crate) fn on_socket(
     receive0: &mut Buffer,
     receive1: &mut Buffer,
     reply: &mut Buffer,
-) -> Desk {
+) -> io::Result<Desk> {
     let mut desk = before;
-    for i in 0..bytes.len() {
+    for byte in bytes {
         desk = byte_on(
-            desk, socket, bytes[i], memory, marks, receive0, receive1, reply,
-        );
+            out, desk, socket, *byte, memory, marks, receive0, receive1, reply,
+        )?;
     }
-    desk
+    Ok(desk)
 }
 
 // A number of 0 has no line.
 fn byte_on(
+    out: &mut impl Write,
     before: Desk,
     socket: u32,
     byte: u8,
@@ -60,16 +67,18 @@ fn byte_on(
     receive0: &mut Buffer,
     receive1: &mut Buffer,
     reply: &mut Buffer,
-) -> Desk {
+) -> io::Result<Desk> {
     let took = taken(
         before, socket, byte, memory, marks, receive0, receive1, reply,
     );
     let desk = desk::with_receiver(before, socket, took.receiver);
     let answer = took.answer;
     if sysex::answer_number(answer) != 0 {
-        print::answered(b'S', desk, answer, memory, marks, receive0, receive1, reply);
+        print::answered(
+            out, b'S', desk, answer, memory, marks, receive0, receive1, reply,
+        )?;
     }
-    desk::counted(desk)
+    Ok(desk::counted(desk))
 }
 
 // Socket 0 has receive buffer 0; any other number is lent receive buffer 1.
@@ -139,6 +148,7 @@ fn take(
 // The moves that the message holds, two bytes each. They are made one by one through the box's own functions: a slice
 // of structs, which the C call takes, is not covered in a caller.
 pub(crate) fn moves(
+    out: &mut impl Write,
     desk: Desk,
     message: &[u8],
     memory: &mut Memory,
@@ -146,13 +156,13 @@ pub(crate) fn moves(
     receive0: &[u8],
     receive1: &[u8],
     reply: &mut Buffer,
-) -> Desk {
+) -> io::Result<Desk> {
     let answer = list_answer(desk, message.len() / 2, memory, reply);
     if let Answer::Taken = answer {
         make_moves(desk, message, memory, reply);
     }
-    print::listed(desk, answer, memory, marks, receive0, receive1, reply);
-    desk::counted(desk)
+    print::listed(out, desk, answer, memory, marks, receive0, receive1, reply)?;
+    Ok(desk::counted(desk))
 }
 
 // What a list of so many moves is answered, by what is lent of memory and, for the numbers, of the reply buffer.
@@ -191,34 +201,41 @@ fn moved(desk: Desk, controller: u8, value: u8, memory: &mut [u8]) -> u8 {
 }
 
 // What scaling the controller gives for a value.
-pub(crate) fn scale(desk: Desk, value: u32) -> Desk {
+pub(crate) fn scale(out: &mut impl Write, desk: Desk, value: u32) -> io::Result<Desk> {
     print::value(
+        out,
         b'K',
         desk,
         costerbloom::costerbloom_scale(desk.controller, value, desk.kind),
-    );
-    desk::counted(desk)
+    )?;
+    Ok(desk::counted(desk))
 }
 
 // Whether an amp model is known.
-pub(crate) fn amp(desk: Desk, model: u32) -> Desk {
-    print::value(b'G', desk, costerbloom::costerbloom_amp(model, desk.kind));
-    desk::counted(desk)
+pub(crate) fn amp(out: &mut impl Write, desk: Desk, model: u32) -> io::Result<Desk> {
+    print::value(
+        out,
+        b'G',
+        desk,
+        costerbloom::costerbloom_amp(model, desk.kind),
+    )?;
+    Ok(desk::counted(desk))
 }
 
 // The controller shown back from what is lent of memory.
-pub(crate) fn show_back(desk: Desk, memory: &[u8]) -> Desk {
+pub(crate) fn show_back(out: &mut impl Write, desk: Desk, memory: &[u8]) -> io::Result<Desk> {
     let end = buffers::within(desk.lent.memory, memory);
     print::value(
+        out,
         b'D',
         desk,
         costerbloom::costerbloom_back(desk.controller, desk.player, desk.kind, &memory[..end]),
-    );
-    desk::counted(desk)
+    )?;
+    Ok(desk::counted(desk))
 }
 
 // What the screen is handed: the program of the controller's number, or the own buffer.
-pub(crate) fn show(desk: Desk, own: u32, memory: &[u8]) -> Desk {
+pub(crate) fn show(out: &mut impl Write, desk: Desk, own: u32, memory: &[u8]) -> io::Result<Desk> {
     let end = buffers::within(desk.lent.programs, memory);
     let start = buffers::within(desk.lent.own, memory);
     let mut number = 0;
@@ -231,6 +248,6 @@ pub(crate) fn show(desk: Desk, own: u32, memory: &[u8]) -> Desk {
         &memory[..end],
         &memory[start..],
     );
-    print::shown(desk, number, part);
-    desk::counted(desk)
+    print::shown(out, desk, number, part)?;
+    Ok(desk::counted(desk))
 }

@@ -102,6 +102,6 @@ pub(crate) fn with_receiver(before: Desk, socket: u32, receiver: Receiver) -> De
 // One call more. The count would begin again after 2^64 calls, which no run reaches.
 pub(crate) fn counted(before: Desk) -> Desk {
     let mut desk = before;
-    desk.calls = std::num::wrapping_add_u64(desk.calls, 1);
+    desk.calls = desk.calls.wrapping_add(1);
     desk
 }

@@ -2,7 +2,8 @@
 use crate::buffers::{Marks, Memory};
 use crate::desk::Desk;
 use crate::{buffers, receiver};
-use libc::STDOUT_FILENO;
+use std::io;
+use std::io::Write;
 use sysex::Answer;
 
 // Two digits for each byte of the longest buffer.
@@ -14,6 +15,7 @@ const DIGITS: [u8; 16] = *b"0123456789abcdef";
 
 // The line of a call of the box, and a second with its reply where there is one.
 pub(crate) fn answered(
+    out: &mut impl Write,
     letter: u8,
     desk: Desk,
     answer: Answer,
@@ -22,27 +24,29 @@ pub(crate) fn answered(
     receive0: &[u8],
     receive1: &[u8],
     reply: &[u8],
-) {
-    io::write_all(STDOUT_FILENO, &[letter]);
-    field(desk.calls);
-    field(sysex::answer_number(answer) as u64);
-    field(sysex::answer_length(answer) as u64);
-    field(digest(memory));
-    field(digest(marks));
-    field(digest(reply));
-    field(digest(receive0));
-    field(digest(receive1));
-    field(receiver::number(desk.receiver0));
-    field(receiver::number(desk.receiver1));
-    io::write_all(STDOUT_FILENO, b"\n");
+) -> io::Result<()> {
+    out.write_all(&[letter])?;
+    field(out, desk.calls)?;
+    field(out, sysex::answer_number(answer) as u64)?;
+    field(out, sysex::answer_length(answer) as u64)?;
+    field(out, digest(memory))?;
+    field(out, digest(marks))?;
+    field(out, digest(reply))?;
+    field(out, digest(receive0))?;
+    field(out, digest(receive1))?;
+    field(out, receiver::number(desk.receiver0))?;
+    field(out, receiver::number(desk.receiver1))?;
+    out.write_all(b"\n")?;
     if let Answer::Sent(length) = answer {
-        hex(b'r', reply, length);
+        hex(out, b'r', reply, length)?;
     }
+    Ok(())
 }
 
 // The line of a list of moves, and a second with their numbers where they were made: a list that is taken is shorter than
 // the message buffer.
 pub(crate) fn listed(
+    out: &mut impl Write,
     desk: Desk,
     answer: Answer,
     memory: &[u8],
@@ -50,54 +54,62 @@ pub(crate) fn listed(
     receive0: &[u8],
     receive1: &[u8],
     reply: &[u8],
-) {
-    answered(b'V', desk, answer, memory, marks, receive0, receive1, reply);
+) -> io::Result<()> {
+    answered(
+        out, b'V', desk, answer, memory, marks, receive0, receive1, reply,
+    )?;
     if let Answer::Taken = answer {
-        hex(b'n', reply, desk.length / 2);
+        hex(out, b'n', reply, desk.length / 2)?;
     }
+    Ok(())
 }
 
 // The line of a controller's value, of whether an amp model is known, or of a refusal.
-pub(crate) fn value(letter: u8, desk: Desk, value: u32) {
-    io::write_all(STDOUT_FILENO, &[letter]);
-    field(desk.calls);
-    field(value as u64);
-    io::write_all(STDOUT_FILENO, b"\n");
+pub(crate) fn value(out: &mut impl Write, letter: u8, desk: Desk, value: u32) -> io::Result<()> {
+    out.write_all(&[letter])?;
+    field(out, desk.calls)?;
+    field(out, value as u64)?;
+    out.write_all(b"\n")
 }
 
 // The line of what the screen is handed, and a second with its bytes where it is not refused. The remainder is for the
 // proof alone: no part is that long.
-pub(crate) fn shown(desk: Desk, number: u8, part: &[u8]) {
-    io::write_all(STDOUT_FILENO, b"X");
-    field(desk.calls);
-    field(number as u64);
-    field(part.len() as u64);
-    field(digest(part));
-    io::write_all(STDOUT_FILENO, b"\n");
+pub(crate) fn shown(out: &mut impl Write, desk: Desk, number: u8, part: &[u8]) -> io::Result<()> {
+    out.write_all(b"X")?;
+    field(out, desk.calls)?;
+    field(out, number as u64)?;
+    field(out, part.len() as u64)?;
+    field(out, digest(part))?;
+    out.write_all(b"\n")?;
     if number == 0 {
-        hex(b'x', part, (part.len() % 65536) as u16);
+        hex(out, b'x', part, (part.len() % 65536) as u16)?;
     }
+    Ok(())
 }
 
 // The lines at the end of the script.
-pub(crate) fn end(desk: Desk, memory: &Memory, marks: &Marks) {
-    hex(b'm', memory, buffers::MEMORY as u16);
-    hex(b'k', marks, buffers::MARKS as u16);
-    io::write_all(STDOUT_FILENO, b"c");
-    field(desk.calls);
-    io::write_all(STDOUT_FILENO, b"\n");
+pub(crate) fn end(
+    out: &mut impl Write,
+    desk: Desk,
+    memory: &Memory,
+    marks: &Marks,
+) -> io::Result<()> {
+    hex(out, b'm', memory, buffers::MEMORY as u16)?;
+    hex(out, b'k', marks, buffers::MARKS as u16)?;
+    out.write_all(b"c")?;
+    field(out, desk.calls)?;
+    out.write_all(b"\n")
 }
 
-fn field(number: u64) {
-    io::write_all(STDOUT_FILENO, b"\t");
-    io::print_decimal(STDOUT_FILENO, number);
+fn field(out: &mut impl Write, number: u64) -> io::Result<()> {
+    write!(out, "\t{number}")
 }
 
 // Each byte times its place, counted from 1, summed.
 fn digest(bytes: &[u8]) -> u64 {
-    let mut sum = 0;
+    let mut sum = 0u64;
     for i in 0..bytes.len() {
-        sum = std::num::wrapping_add_u64(sum, weight(i, bytes[i]));
+        sum = sum.wrapping_add(weight(i, bytes[i]));
     }
     sum
 }
@@ -108,20 +120,18 @@ fn weight(place: usize, byte: u8) -> u64 {
 }
 
 // A line with the first bytes of a buffer in hex.
-fn hex(letter: u8, buffer: &[u8], length: u16) {
+fn hex(out: &mut impl Write, letter: u8, buffer: &[u8], length: u16) -> io::Result<()> {
     let mut text: Text = [0; TEXT];
     spell(buffer, &mut text);
-    io::write_all(STDOUT_FILENO, &[letter, b'\t']);
-    write_digits(&text, length);
-    io::write_all(STDOUT_FILENO, b"\n");
+    out.write_all(&[letter, b'\t'])?;
+    write_digits(out, &text, length)?;
+    out.write_all(b"\n")
 }
 
 // The digits of the first bytes.
-fn write_digits(text: &Text, length: u16) {
-    let all: &[u8] = text;
-    let digits = 2 * length as u32;
-    let end = io::count(digits as isize, all);
-    io::write_all(STDOUT_FILENO, &all[..end]);
+fn write_digits(out: &mut impl Write, text: &Text, length: u16) -> io::Result<()> {
+    let end = (2 * length as usize).min(TEXT);
+    out.write_all(&text[..end])
 }
 
 // Two digits for each byte. The test is for the proof alone: no buffer is longer.

@@ -1,5 +1,6 @@
 // A script: commands of four bytes.
-use libc::STDIN_FILENO;
+use std::io;
+use std::io::{ErrorKind, Read};
 
 #[derive(Clone, Copy)]
 pub(crate) struct Command {
@@ -15,18 +16,17 @@ pub(crate) enum Next {
     End,
 }
 
-// A rest of fewer than four bytes is the end.
-pub(crate) fn read() -> Next {
+// A rest of fewer than four bytes is the end, and a read that fails is an error.
+pub(crate) fn read(script: &mut impl Read) -> io::Result<Next> {
     let mut bytes = [0u8; 4];
-    if io::read_full(STDIN_FILENO, &mut bytes) < 4 {
-        return Next::End;
+    match script.read_exact(&mut bytes) {
+        Ok(()) => {
+            let [op, a, b, v] = bytes;
+            Ok(Next::Do(Command { op, a, b, v }))
+        }
+        Err(e) if e.kind() == ErrorKind::UnexpectedEof => Ok(Next::End),
+        Err(e) => Err(e),
     }
-    Next::Do(Command {
-        op: bytes[0],
-        a: bytes[1],
-        b: bytes[2],
-        v: bytes[3],
-    })
 }
 
 // n: a, and b above it.

@@ -6,42 +6,49 @@ ghost use Rattle.controls.specs.Sheet.{on_sheet};
 
 use controls::Reading;
 use kinds::Kind;
-use libc::STDOUT_FILENO;
+use std::io;
 
 // A controller of a POD for each column. 57 has the numbers of 56.
 const COLUMNS: [u32; 6] = [23, 51, 52, 54, 56, 58];
 
-fn main() {
-    text(b"value\t23: (127 - v) x 194 / 256\t51: v x 50, at least 200\t52: v x 256/104\t");
-    text(b"54: v x 256/42, at least 1\t56, 57: v x 22 + 100\t58: v x 25, at least 150\n");
-    print_lines();
+fn main(rt: HostRuntime) -> io::Result<()> {
+    text(
+        &rt,
+        "value\t23: (127 - v) x 194 / 256\t51: v x 50, at least 200\t52: v x 256/104\t",
+    )?;
+    text(
+        &rt,
+        "54: v x 256/42, at least 1\t56, 57: v x 22 + 100\t58: v x 25, at least 150\n",
+    )?;
+    print_lines(&rt)
 }
 
-fn print_lines() {
+fn print_lines(rt: &impl Print) -> io::Result<()> {
     for value in 0..128 {
-        print_line(value);
+        print_line(rt, value)?;
     }
+    Ok(())
 }
 
-fn print_line(value: u32)
+fn print_line(rt: &impl Print, value: u32) -> io::Result<()>
     requires { value ≤ 127 }
 {
-    io::print_decimal(STDOUT_FILENO, value as u64);
-    print_numbers(value);
-    text(b"\n");
+    print!(rt; "{value}")?;
+    print_numbers(rt, value)?;
+    text(rt, "\n")
 }
 
-fn print_numbers(value: u32)
+fn print_numbers(rt: &impl Print, value: u32) -> io::Result<()>
     requires { value ≤ 127 }
 {
     for column in 0..6 {
-        print_number(in_column(column, value));
+        print_number(rt, in_column(column, value))?;
     }
+    Ok(())
 }
 
-fn print_number(number: u16) {
-    text(b"\t");
-    io::print_decimal(STDOUT_FILENO, number as u64);
+fn print_number(rt: &impl Print, number: u16) -> io::Result<()> {
+    print!(rt; "\t{number}")
 }
 
 // A column's number for a value, as the firmware scales it. Scaling refuses none of these.
@@ -56,6 +63,6 @@ fn in_column(column: usize, value: u32) -> u16
     }
 }
 
-fn text(bytes: &[u8]) {
-    io::write_all(STDOUT_FILENO, bytes);
+fn text(rt: &impl Print, words: &str) -> io::Result<()> {
+    rt.print(words)
 }

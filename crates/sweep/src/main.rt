@@ -7,43 +7,36 @@ mod controllers;
 mod half_bytes;
 mod tally;
 
-use libc::STDOUT_FILENO;
+use std::io;
 use tally::Tally;
 
-fn print_tally(tally: Tally) {
-    io::write_all(STDOUT_FILENO, b"\t");
-    io::print_decimal(STDOUT_FILENO, tally.count as u64);
-    io::write_all(STDOUT_FILENO, b"\t");
-    io::print_decimal(STDOUT_FILENO, tally.digest);
+fn print_tally(rt: &impl Print, tally: Tally) -> io::Result<()> {
+    print!(rt; "\t{}\t{}", tally.count, tally.digest)
 }
 
-fn print_controller(number: u32, controller: u32) {
+fn print_controller(rt: &impl Print, number: u32, controller: u32) -> io::Result<()> {
     let kind = kinds::kind_of(number);
-    io::print_decimal(STDOUT_FILENO, number as u64);
-    io::write_all(STDOUT_FILENO, b"\t");
-    io::print_decimal(STDOUT_FILENO, controller as u64);
-    print_tally(controllers::scaled(controller, kind));
-    print_tally(controllers::applied(controller, kind));
-    print_tally(controllers::shown(controller, kind));
-    io::write_all(STDOUT_FILENO, b"\n");
+    print!(rt; "{number}\t{controller}")?;
+    print_tally(rt, controllers::scaled(controller, kind))?;
+    print_tally(rt, controllers::applied(controller, kind))?;
+    print_tally(rt, controllers::shown(controller, kind))?;
+    println!(rt)
 }
 
 // The 128 controllers, and one past them, of the kind that has this number.
-fn print_controllers(number: u32) {
+fn print_controllers(rt: &impl Print, number: u32) -> io::Result<()> {
     for controller in 0..129 {
-        print_controller(number, controller);
+        print_controller(rt, number, controller)?;
     }
+    Ok(())
 }
 
-fn main() {
-    io::write_all(
-        STDOUT_FILENO,
-        b"kind\tcontroller\tscaled\tdigest\tapplied\tdigest\tshown\tdigest\n",
-    );
-    print_controllers(kinds::POD);
-    print_controllers(kinds::BASS_POD);
-    print_controllers(kinds::POD_PRO);
-    io::write_all(STDOUT_FILENO, b"halves");
-    print_tally(half_bytes::joined_and_split());
-    io::write_all(STDOUT_FILENO, b"\n");
+fn main(rt: HostRuntime) -> io::Result<()> {
+    println!(rt; "kind\tcontroller\tscaled\tdigest\tapplied\tdigest\tshown\tdigest")?;
+    print_controllers(&rt, kinds::POD)?;
+    print_controllers(&rt, kinds::BASS_POD)?;
+    print_controllers(&rt, kinds::POD_PRO)?;
+    print!(rt; "halves")?;
+    print_tally(&rt, half_bytes::joined_and_split())?;
+    println!(rt)
 }

