@@ -15,6 +15,15 @@ is_new() {
     [ -f "$1" ] && [ -z "$(find crates.txt crates -path 'crates/*/out' -prune -o -type f \( -name '*.rt' -o -name '*.antt' -o -name crates.txt \) -newer "$1" -print -quit)" ]
 }
 
+# copy_crates FOLDER: what rt reads of the crates, for another try elsewhere.
+copy_crates() {
+    local folder
+    for folder in crates/*/src crates/*/specs crates/*/proofs; do
+        [ ! -d "$folder" ] || cp -r --parents "$folder" "$1"
+    done
+    cp crates.txt "$1"
+}
+
 # program_of NAME: where a program of crates/ stands once it is proved and built, by rt ci or by build_program.
 program_of() {
     echo "crates/$1/out/$1"
@@ -60,12 +69,13 @@ build_c() {
         --start-group "$lib/libc.so.6" "$lib/libc_nonshared.a" "$lib/libgcc.a" --end-group "$lib/crtendS.o" "$lib/crtn.o"
 }
 
-# The archive of the C interface, proved and built where it is not there yet or a source is newer.
+# The archive of the C interface, for every x86-64 processor: proved and built where it is not there yet or a source is
+# newer.
 library=target/staticlib/libcosterbloom.a
 build_library() {
     ! is_new "$library" || return 0
     local said
-    said=$(cd crates/costerbloom_c && "$rt" lib 2>&1 </dev/null) || { printf '%s\n' "$said" >&2; return 1; }
+    said=$(cd crates/costerbloom_c && "$rt" lib --cpu=x86-64 2>&1 </dev/null) || { printf '%s\n' "$said" >&2; return 1; }
     mkdir -p "$(dirname "$library")"
     cp crates/costerbloom_c/out/libcosterbloom_c.a "$library"
 }

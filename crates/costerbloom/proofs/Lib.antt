@@ -1,3 +1,2 @@
-pub mod Again
 pub mod Making
 pub mod OneResult
