@@ -1,4 +1,4 @@
--- What is kept of all of an input, over any list of the parts in which it comes: no contract can speak of what is read.
+-- What is kept of all of an input, over any list of the parts in which it comes: no contract can speak of what standard input gives.
 use Prim.Native.Nat.{ℕ, ◌≤◌, min}
 use mathlib.Core.List.{List, [], ◌∷◌, ◌++◌, append_assoc, flatten}
 use mathlib.Core.Path.{◌≡◌, refl, ap, ◌∙◌}
@@ -12,16 +12,16 @@ use Rattle.why.specs.Kept.{buffer_size, Kept, Steps, done, next}
 use Rattle.why.proofs.FirstBytes.{take_again, none_yet}
 
 -- one part more, behind the others
-pub part_behind : {count before after : ℕ} {message entry exit part : List ℕ} {parts : List (List ℕ)}
+pub part_behind : {count after : ℕ} {message exit part : List ℕ} {parts : List (List ℕ)} {before : ℕ} {entry : List ℕ}
     → Steps count message parts before entry → Kept after exit message count part → Steps after exit (parts ++ (part ∷ [])) before entry
 part_behind done k = next k done
 part_behind (next h s) k = next h (part_behind s k)
 
 -- from any number of bytes that are kept already
-kept_from : {count before : ℕ} {message entry : List ℕ} {parts : List (List ℕ)} → Steps count message parts before entry → before ≤ length entry
+kept_from : {count : ℕ} {message : List ℕ} {parts : List (List ℕ)} {before : ℕ} {entry : List ℕ} → Steps count message parts before entry → before ≤ length entry
     → Kept count message entry before (flatten parts)
 unfolding flatten
-kept_from {count} {message = message} done fits = record { places = refl; counted = omega arith; first = none_yet count message [] }
+kept_from {count} {message = message} done fits = record { places = refl; counted = omega arith; first = none_yet count message }
 kept_from (next {between} {before} {exit} {entry} {part} {parts} k s) fits =
     let rest = kept_from s (omega (arith, k.counted, k.places)) in
     let n = length entry in

@@ -1,2 +1,3 @@
 pub mod FirstBytes
 pub mod AllKept
+pub mod Known
