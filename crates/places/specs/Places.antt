@@ -1,0 +1,16 @@
+-- Where half bytes are bad, as Req 09 has it.
+use Rattle.std.specs.Prelude.{ℕ, ◌+◌, ◌*◌, ◌/◌, List, [], ◌∷◌, cond, leb, take}
+use Rattle.places.specs.declared.Found.{Found}
+use Rattle.places.specs.declared.Found.TheVariants.{At, Nowhere}
+use Rattle.halves.specs.HalfBytes.{all_halves}
+
+-- "the place of the first one above" n, from 0; the list's length, where none is
+abbrev pub first_above : ℕ → List ℕ → ℕ
+first_above n [] = 0
+first_above n (x ∷ xs) = cond (leb x n) (first_above n xs + 1) 0
+
+-- "the place of the first one above 0x0F", and "also which program it spoils, by number": of so many programs with so many half bytes each
+unfoldable pub first_bad : ℕ → ℕ → List ℕ → Found
+first_bad programs per halves =
+    let looked = take (programs * per) halves in
+    cond (all_halves looked) Nowhere (At (first_above 0x0F looked) (first_above 0x0F looked / per))
