@@ -1,4 +1,4 @@
--- What the walk of a list of moves knows of it: how many moves are made, and that what they leave is what is promised.
+-- What the loop over a list of moves knows of it: how many moves are made, and that what they leave is what is promised.
 use Prim.Native.Nat.{ℕ, ◌+◌, ◌≤◌}
 use mathlib.Core.Bool.{true, cond}
 use mathlib.Core.Logic.{⊎_elim}

@@ -1,4 +1,4 @@
--- What the private functions of a list of moves say to its walk. No promise rests on it.
+-- What the private functions of a list of moves say to the one that calls them. No promise rests on it.
 use Rattle.std.specs.Prelude.{ℕ, ◌+◌, cond, List, [], ◌∷◌, eqb, set}
 use Rattle.kinds.specs.Kinds.{kind_of}
 use Rattle.programs.specs.Memory.{player_of}

@@ -1,4 +1,4 @@
-// The C interface: the box on numbers and byte slices. include/costerbloom.h declares its seven functions.
+// The box on numbers and byte slices, as C calls it: costerbloom_c exports the seven public functions.
 #![tactic(auto)]
 
 mod moves;

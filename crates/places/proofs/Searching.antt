@@ -15,13 +15,7 @@ use Rattle.ground.proofs.Tests.{both, by, and-false}
 use Rattle.ground.proofs.AtMost.{at_most-take}
 use Rattle.places.specs.declared.Found.TheVariants.{At, Nowhere}
 use Rattle.halves.specs.HalfBytes.{all_halves}
-use Rattle.places.specs.Places.{first_above, first_bad}
-
--- The first number above n stands at this place.
-pub record First (n place : ℕ) (xs : List ℕ) : Type 0 where
-  pub inside : place < length xs
-  pub above : n < get_or xs place 0
-  pub before : all_at_most n (take place xs) ≡ true
+use Rattle.places.specs.Places.{First, first_above, first_bad}
 
 -- a list that has one, and it alone
 pub is_first : (n : ℕ) (xs : List ℕ) → all_at_most n xs ≡ false → First n (first_above n xs) xs

@@ -1,5 +1,6 @@
 -- Where half bytes are bad, as Req 09 has it.
-use Rattle.std.specs.Prelude.{ℕ, ◌+◌, ◌*◌, ◌/◌, List, [], ◌∷◌, cond, leb, take}
+use Rattle.std.specs.Prelude.{ℕ, ◌+◌, ◌*◌, ◌/◌, ◌<◌, List, [], ◌∷◌, true, ◌≡◌, cond, leb, length, get_or, take}
+use Rattle.ground.specs.Lists.{all_at_most}
 use Rattle.places.specs.declared.Found.{Found}
 use Rattle.places.specs.declared.Found.TheVariants.{At, Nowhere}
 use Rattle.halves.specs.HalfBytes.{all_halves}
@@ -14,3 +15,9 @@ unfoldable pub first_bad : ℕ → ℕ → List ℕ → Found
 first_bad programs per halves =
     let looked = take (programs * per) halves in
     cond (all_halves looked) Nowhere (At (first_above 0x0F looked) (first_above 0x0F looked / per))
+
+-- the first number above n stands at this place: what a theorem says of the place that is told
+pub record First (n place : ℕ) (xs : List ℕ) : Type 0 where
+  pub inside : place < length xs
+  pub above : n < get_or xs place 0
+  pub before : all_at_most n (take place xs) ≡ true

@@ -145,8 +145,8 @@ fn take(
     )
 }
 
-// The moves that the message holds, two bytes each. They are made one by one through the box's own functions: a slice
-// of structs, which the C call takes, is not covered in a caller.
+// The moves that the message holds, two bytes each. They are made one by one through the box's own functions; the call
+// of a whole list is played by C.
 pub(crate) fn moves(
     out: &mut impl Write,
     desk: Desk,

@@ -10,13 +10,11 @@ apply_row-number-requires c = found_sane _ _ _ _ _ c.packed_row.ensures c.unpack
 pub returns-then-number-eq3 : goal.returns-then-number-eq3
 unfolding apply_of
 returns-then-number-eq3 c =
-    let k = c in
-    rw (← found_row _ _ _ _ _ k.packed_row.ensures k.unpacked-found.ensures)
-    (rw (eq-eqb _ _ c.if-number-eq3.true) at k.apply_row-number.ensures)
+    rw (← found_row _ _ _ _ _ c.packed_row.ensures c.unpacked-found.ensures)
+    (rw (eq-eqb _ _ c.if-number-eq3.true) at c.apply_row-number.ensures)
 
 pub returns : goal.returns
 unfolding apply_of
 returns c =
-    let k = c in
-    rw (← found_row _ _ _ _ _ k.packed_row.ensures k.unpacked-found.ensures)
-    (rw (ne_eqb _ _ c.if-number-eq3.false) at k.apply_row-number.ensures)
+    rw (← found_row _ _ _ _ _ c.packed_row.ensures c.unpacked-found.ensures)
+    (rw (ne_eqb _ _ c.if-number-eq3.false) at c.apply_row-number.ensures)

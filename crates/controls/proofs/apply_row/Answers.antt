@@ -24,14 +24,14 @@ store-requires c = let long = c.size.ensures in
     record { sane_for_some = ((_, pre.0), pre.1); le_width = search rules; value_bound = search rules; width_in_bounds = search rules }
 
 pub returns-then-is_selected : goal.returns-then-is_selected
-returns-then-is_selected c = let k = c in
+returns-then-is_selected c =
     rw (
-      ← k.size.ensures,
-      le-leb _ _ k.if-edit-size.false,
-      ne_eqb _ _ k.if-row-eq0.false,
-      le-leb _ _ k.if-highest-value.false,
-      ← k.is_selected.ensures,
-      k.if-is_selected.true,
+      ← c.size.ensures,
+      le-leb _ _ c.if-edit-size.false,
+      ne_eqb _ _ c.if-row-eq0.false,
+      le-leb _ _ c.if-highest-value.false,
+      ← c.is_selected.ensures,
+      c.if-is_selected.true,
       c.store.ensures,
     )
 

@@ -22,13 +22,13 @@ pub shown-requires : goal.shown-requires
 shown-requires c = let pre = c.requires in ((_, pre.0), pre.1)
 
 pub returns-then-is_selected : goal.returns-then-is_selected
-returns-then-is_selected c = let k = c in
+returns-then-is_selected c =
     rw (
-      ← k.size.ensures,
-      le-leb _ _ k.if-edit-size.false,
-      ne_eqb _ _ k.if-row-eq0.false,
-      ← k.is_selected.ensures,
-      k.if-is_selected.true,
+      ← c.size.ensures,
+      le-leb _ _ c.if-edit-size.false,
+      ne_eqb _ _ c.if-row-eq0.false,
+      ← c.is_selected.ensures,
+      c.if-is_selected.true,
       ← c.read-stored.ensures,
       c.shown.ensures,
     )
