@@ -20,7 +20,8 @@ use Rattle.kinds.proofs.AnyKind.{size-bounds}
 use Rattle.programs.specs.declared.Player.{Player}
 use Rattle.programs.specs.Memory.{program_count, last_program, memory_size, mark_count, part_of, put_part}
 use Rattle.programs.specs.Spares.{with_spares, without_spares, all_set}
-use Rattle.programs.specs.Held.{Held, held_of, Target, slot_for, slots_for}
+use Rattle.programs.specs.declared.Target.{Target}
+use Rattle.programs.specs.Held.{Held, held_of, slot_for, slots_for}
 use Rattle.programs.proofs.Slots.{place_slots, count_slots}
 use Rattle.sysex.specs.declared.Settings.{Settings}
 use Rattle.sysex.specs.declared.Answer.TheVariants.{Sent}

@@ -20,7 +20,9 @@ use Rattle.sysex.specs.declared.Order.{Order}
 use Rattle.sysex.specs.declared.Order.TheVariants.{Refused}
 use Rattle.kinds.specs.declared.Kind.{Kind}
 use Rattle.kinds.specs.Kinds.{size_of, has_spare, header_of}
-use Rattle.programs.specs.Held.{Target, One, Edit, All, count_for, slots_for, sent_size, sent_for}
+use Rattle.programs.specs.declared.Target.{Target}
+use Rattle.programs.specs.declared.Target.TheVariants.{One, Edit, All}
+use Rattle.programs.specs.Held.{count_for, slots_for, sent_size, sent_for}
 use Rattle.programs.proofs.Slots.{sent_slots, long_all, short_fewer}
 use Rattle.sysex.specs.Forms.{begins, opcode_of, type_of, program_of, request, program, edit, version_place, data_place, data_count, body_length, shortest}
 use Rattle.sysex.specs.Forms.{type_for, pp_for, request_body, dump_body, is_long, identity_body, is_identity, is_our_channel}

@@ -7,7 +7,9 @@ use Rattle.halves.specs.HalfBytes.{join}
 use Rattle.kinds.specs.declared.Kind.{Kind}
 use Rattle.programs.specs.declared.Player.{Player}
 use Rattle.programs.specs.Memory.{memory_size, mark_count}
-use Rattle.programs.specs.Held.{Held, Target, One, Edit, All, store_in, bytes_out}
+use Rattle.programs.specs.declared.Target.{Target}
+use Rattle.programs.specs.declared.Target.TheVariants.{One, Edit, All}
+use Rattle.programs.specs.Held.{Held, store_in, bytes_out}
 use Rattle.sysex.specs.declared.Settings.{Settings}
 use Rattle.sysex.specs.declared.Order.{Order}
 use Rattle.sysex.specs.declared.Order.TheVariants as order

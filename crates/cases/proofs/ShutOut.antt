@@ -13,7 +13,8 @@ use Rattle.kinds.specs.declared.Kind.TheVariants.{Pod}
 use Rattle.kinds.specs.Kinds.{is_kind, kind_of, number_of, size_of, has_spare, device_of, highest_model}
 use Rattle.programs.specs.declared.Player.TheVariants as players
 use Rattle.programs.specs.Memory.{is_player, player_of, edit_slot, edit_place}
-use Rattle.programs.specs.Held.{Held, Edit}
+use Rattle.programs.specs.declared.Target.TheVariants.{Edit}
+use Rattle.programs.specs.Held.{Held}
 use Rattle.controls.specs.Formulas.{number_by, number_for, next_for}
 use Rattle.controls.specs.Table.{table, row_of, selections, effect_of, selected}
 use Rattle.controls.specs.Applying.{store_row, apply_of}

@@ -4,7 +4,8 @@ use Rattle.ground.specs.Lists.{from}
 use Rattle.kinds.specs.declared.Kind.{Kind}
 use Rattle.kinds.specs.Kinds.{number_of, size_of}
 use Rattle.programs.specs.Memory.{memory_size, mark_count}
-use Rattle.programs.specs.Held.{Held, held_of, Target}
+use Rattle.programs.specs.declared.Target.{Target}
+use Rattle.programs.specs.Held.{Held, held_of}
 use Rattle.halves.specs.HalfBytes.{split}
 use Rattle.halves.specs.Moving.{moved_number, join_into}
 use Rattle.controls.specs.Answers.{refusal_of, value_of}

@@ -5,7 +5,7 @@ use Rattle.kinds.specs.declared.Kind.TheVariants.{Pod, BassPod}
 use Rattle.kinds.specs.Kinds.{number_of, size_of}
 use Rattle.programs.specs.declared.Player.TheVariants as players
 use Rattle.programs.specs.Memory.{program_place, edit_place, all_size}
-use Rattle.programs.specs.Held.{One, Edit, All}
+use Rattle.programs.specs.declared.Target.TheVariants.{One, Edit, All}
 use Rattle.controls.specs.Applying.{apply_of}
 use Rattle.framing.specs.Receiver.{fresh}
 use Rattle.sysex.specs.Forms.{request_body, dump_body, identity_body, ended}

@@ -5,7 +5,8 @@ use Rattle.kinds.specs.declared.Kind.{Kind}
 use Rattle.kinds.specs.declared.Kind.TheVariants.{Pod, BassPod, PodPro}
 use Rattle.kinds.specs.Kinds.{number_of}
 use Rattle.programs.specs.declared.Player.TheVariants as players
-use Rattle.programs.specs.Held.{Held, held_of, One, Edit, All}
+use Rattle.programs.specs.declared.Target.TheVariants.{One, Edit, All}
+use Rattle.programs.specs.Held.{Held, held_of}
 use Rattle.controls.specs.Answers.{refusal_of, value_of}
 use Rattle.framing.specs.declared.Receiver.{Receiver}
 use Rattle.framing.specs.Receiver.{fresh, under_of, holding_of, opened_of}

@@ -3,7 +3,7 @@ use Rattle.std.specs.Prelude.{List, [], ◌∷◌}
 use Rattle.kinds.specs.declared.Kind.TheVariants.{Pod}
 use Rattle.kinds.specs.Kinds.{size_of}
 use Rattle.programs.specs.Memory.{part_of}
-use Rattle.programs.specs.Held.{One}
+use Rattle.programs.specs.declared.Target.TheVariants.{One}
 use Rattle.sysex.specs.Forms.{request_body, dump_body, ended}
 use Rattle.cases.specs.Case.{Case, ◌is◌}
 use Rattle.cases.specs.Asking.{zeros, travels, reads, scaled, shown, with, after, called, handed}

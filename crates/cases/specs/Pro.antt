@@ -3,7 +3,9 @@ use Rattle.std.specs.Prelude.{ℕ, ◌*◌, cond, List, [], ◌∷◌, ◌++◌,
 use Rattle.kinds.specs.declared.Kind.{Kind}
 use Rattle.kinds.specs.declared.Kind.TheVariants.{Pod, BassPod, PodPro}
 use Rattle.kinds.specs.Kinds.{number_of, is_known_model}
-use Rattle.programs.specs.Held.{held_of, Target, One, Edit, All}
+use Rattle.programs.specs.declared.Target.{Target}
+use Rattle.programs.specs.declared.Target.TheVariants.{One, Edit, All}
+use Rattle.programs.specs.Held.{held_of}
 use Rattle.controls.specs.Answers.{change_number}
 use Rattle.controls.specs.Applying.{apply_of}
 use Rattle.framing.specs.declared.Receiver.{Receiver}

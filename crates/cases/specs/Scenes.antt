@@ -6,7 +6,8 @@ use Rattle.kinds.specs.Kinds.{number_of}
 use Rattle.programs.specs.declared.Player.{Player}
 use Rattle.programs.specs.declared.Player.TheVariants as players
 use Rattle.programs.specs.Memory.{part_of}
-use Rattle.programs.specs.Held.{Held, held_of, Edit, bytes_in}
+use Rattle.programs.specs.declared.Target.TheVariants.{Edit}
+use Rattle.programs.specs.Held.{Held, held_of, bytes_in}
 use Rattle.sockets.specs.Framer.{Channel}
 use Rattle.sockets.specs.Calls.{S0, S1, Call, Byte, Direct, Finish, FromSocket, FromDirect}
 use Rattle.sockets.specs.Box.{Said, said}

@@ -6,7 +6,9 @@ use Rattle.kinds.specs.declared.Kind.TheVariants.{Pod, BassPod}
 use Rattle.kinds.specs.Kinds.{number_of, size_of}
 use Rattle.programs.specs.declared.Player.TheVariants as players
 use Rattle.programs.specs.Memory.{memory_size}
-use Rattle.programs.specs.Held.{Held, held_of, Target, One, Edit, All}
+use Rattle.programs.specs.declared.Target.{Target}
+use Rattle.programs.specs.declared.Target.TheVariants.{One, Edit, All}
+use Rattle.programs.specs.Held.{Held, held_of}
 use Rattle.framing.specs.Receiver.{fresh, opened_of, holding_of}
 use Rattle.sysex.specs.Forms.{dump_body, ended}
 use Rattle.sysex.specs.Numbers.{answer_number}

@@ -4,7 +4,7 @@ use Rattle.kinds.specs.declared.Kind.{Kind}
 use Rattle.kinds.specs.declared.Kind.TheVariants.{Pod, BassPod}
 use Rattle.kinds.specs.Kinds.{size_of}
 use Rattle.programs.specs.Memory.{all_size}
-use Rattle.programs.specs.Held.{One, All}
+use Rattle.programs.specs.declared.Target.TheVariants.{One, All}
 use Rattle.sysex.specs.declared.Order.{Order}
 use Rattle.sysex.specs.declared.Order.TheVariants.{Identify, SendProgram, SendAll, StoreProgram, StoreAll, Refused}
 use Rattle.sysex.specs.declared.Check.TheVariants.{TooLong, Ours, OpcodeAndType, Length, Program, Version, HalfBytes, Channel}

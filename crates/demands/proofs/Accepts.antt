@@ -14,7 +14,9 @@ use Rattle.sysex.specs.declared.Order.TheVariants.{Identify}
 use Rattle.kinds.specs.declared.Kind.{Kind}
 use Rattle.kinds.specs.Kinds.{has_spare, device_of}
 use Rattle.programs.specs.Memory.{program_count, last_program}
-use Rattle.programs.specs.Held.{Target, One, Edit, All, sent_size, sent_for}
+use Rattle.programs.specs.declared.Target.{Target}
+use Rattle.programs.specs.declared.Target.TheVariants.{One, Edit, All}
+use Rattle.programs.specs.Held.{sent_size, sent_for}
 use Rattle.sysex.specs.Forms.{request_body, dump_body, identity_body, body_length, shortest, is_identity, is_our_channel}
 use Rattle.sysex.specs.Judging.{has_form, has_program, further_tests, order_of, body_order, judge_of}
 use Rattle.sysex.specs.Formats.{There, send_order, store_order}

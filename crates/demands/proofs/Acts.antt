@@ -16,7 +16,9 @@ use Rattle.kinds.specs.Kinds.{size_of, has_spare}
 use Rattle.programs.specs.declared.Player.{Player}
 use Rattle.programs.specs.Memory.{program_count, edit_slot, part_of, put_part}
 use Rattle.programs.specs.Spares.{all_set, without_spares}
-use Rattle.programs.specs.Held.{Held, held_of, Target, One, Edit, All, slot_for, slots_for, bytes_in, put_in, received, store_in}
+use Rattle.programs.specs.declared.Target.{Target}
+use Rattle.programs.specs.declared.Target.TheVariants.{One, Edit, All}
+use Rattle.programs.specs.Held.{Held, held_of, slot_for, slots_for, bytes_in, put_in, received, store_in}
 use Rattle.programs.proofs.Parts.{put_same, edit-length}
 use Rattle.programs.proofs.Slots.{received-length}
 use Rattle.controls.specs.Applying.{apply_of}

@@ -19,7 +19,8 @@ use Rattle.kinds.proofs.AnyKind.{size-bounds}
 use Rattle.programs.specs.declared.Player.{Player}
 use Rattle.programs.specs.Memory.{memory_size, mark_count, part_of, put_part}
 use Rattle.programs.specs.Spares.{without_spares, all_set}
-use Rattle.programs.specs.Held.{Held, Target, place_for, count_for, bytes_in, slot_for, slots_for, sent_size, received, store_in, goes_long, bytes_out}
+use Rattle.programs.specs.declared.Target.{Target}
+use Rattle.programs.specs.Held.{Held, place_for, count_for, bytes_in, slot_for, slots_for, sent_size, received, store_in, goes_long, bytes_out}
 use Rattle.programs.proofs.Parts.{put_before, put_behind, put-length, part_in_put, part_in_part}
 use Rattle.programs.proofs.Spares.{with_at, without_at}
 use Rattle.programs.proofs.Slots.{count_slots, sent_slots, received-length, out_length, marked-length}

@@ -13,7 +13,8 @@ use Rattle.kinds.specs.declared.Kind.TheVariants.{Pod}
 use Rattle.kinds.specs.Kinds.{is_kind, kind_of, number_of, size_of}
 use Rattle.programs.specs.declared.Player.{Player}
 use Rattle.programs.specs.Memory.{memory_size, mark_count, edit_place}
-use Rattle.programs.specs.Held.{Held, held_of, Edit, bytes_in}
+use Rattle.programs.specs.declared.Target.TheVariants.{Edit}
+use Rattle.programs.specs.Held.{Held, held_of, bytes_in}
 use Rattle.programs.proofs.Parts.{put_same, edit-length}
 use Rattle.controls.specs.Meaning.{Flanger, RotaryMove}
 use Rattle.controls.proofs.Rows.{has_46}

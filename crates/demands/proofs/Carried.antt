@@ -13,7 +13,8 @@ use Rattle.kinds.specs.Kinds.{size_of}
 use Rattle.kinds.proofs.AnyKind.{size-bounds}
 use Rattle.programs.specs.declared.Player.{Player}
 use Rattle.programs.specs.Memory.{program_count, memory_size, put_part}
-use Rattle.programs.specs.Held.{Held, held_of, One, Edit, place_for, count_for, bytes_in, received, bytes_out}
+use Rattle.programs.specs.declared.Target.TheVariants.{One, Edit}
+use Rattle.programs.specs.Held.{Held, held_of, place_for, count_for, bytes_in, received, bytes_out}
 use Rattle.programs.proofs.Parts.{put-length, put_same, edit-length}
 use Rattle.programs.proofs.Slots.{received-length, out_most}
 use Rattle.programs.proofs.Players.{edit-inside}

@@ -11,7 +11,9 @@ use Rattle.kinds.proofs.AnyKind.{size-bounds}
 use Rattle.programs.specs.declared.Player.{Player}
 use Rattle.programs.specs.Memory.{memory_size, mark_count}
 use Rattle.programs.specs.Spares.{without_spares, all_set}
-use Rattle.programs.specs.Held.{Held, Target, One, Edit, All, place_for, count_for, bytes_in, slot_for, slots_for, sent_for, received, store_in, goes_long, bytes_out}
+use Rattle.programs.specs.declared.Target.{Target}
+use Rattle.programs.specs.declared.Target.TheVariants.{One, Edit, All}
+use Rattle.programs.specs.Held.{Held, place_for, count_for, bytes_in, slot_for, slots_for, sent_for, received, store_in, goes_long, bytes_out}
 use Rattle.programs.proofs.Parts.{part_put}
 use Rattle.programs.proofs.Spares.{without_with, all_set-ones, not_all_set}
 use Rattle.programs.proofs.Slots.{sent_slots, received-length}

@@ -13,7 +13,8 @@ use Rattle.kinds.specs.Kinds.{size_of}
 use Rattle.programs.specs.declared.Player.{Player}
 use Rattle.programs.specs.declared.Player.TheVariants as players
 use Rattle.programs.specs.Memory.{memory_size, program_place, edit_place}
-use Rattle.programs.specs.Held.{Held, Edit, bytes_in, put_in}
+use Rattle.programs.specs.declared.Target.TheVariants.{Edit}
+use Rattle.programs.specs.Held.{Held, bytes_in, put_in}
 use Rattle.programs.proofs.Parts.{other_part, part_put, part_before, put_before, put_behind, put-length, edit-length}
 use Rattle.programs.proofs.Players.{edit-inside, edit_apart}
 use Rattle.controls.specs.Table.{row_of}

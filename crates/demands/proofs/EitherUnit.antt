@@ -16,7 +16,9 @@ use Rattle.kinds.specs.declared.Kind.{Kind}
 use Rattle.kinds.specs.declared.Kind.TheVariants.{Pod, PodPro}
 use Rattle.kinds.specs.Kinds.{is_kind, kind_of, number_of, size_of, has_spare, device_of, takes_program_change, highest_model}
 use Rattle.programs.specs.declared.Player.{Player}
-use Rattle.programs.specs.Held.{Held, Target, Edit, bytes_in}
+use Rattle.programs.specs.declared.Target.{Target}
+use Rattle.programs.specs.declared.Target.TheVariants.{Edit}
+use Rattle.programs.specs.Held.{Held, bytes_in}
 use Rattle.controls.specs.declared.Change.TheVariants as change
 use Rattle.controls.specs.declared.Reading.{Reading}
 use Rattle.controls.specs.declared.Reading.TheVariants.{Value, Refused}

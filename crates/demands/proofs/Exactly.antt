@@ -17,7 +17,8 @@ use Rattle.kinds.specs.declared.Kind.{Kind}
 use Rattle.kinds.specs.Kinds.{kind_of}
 use Rattle.programs.specs.declared.Player.{Player}
 use Rattle.programs.specs.Memory.{player_of}
-use Rattle.programs.specs.Held.{Held, Target, store_in}
+use Rattle.programs.specs.declared.Target.{Target}
+use Rattle.programs.specs.Held.{Held, store_in}
 use Rattle.framing.specs.declared.Receiver.{Receiver}
 use Rattle.framing.specs.declared.Event.TheVariants as event
 use Rattle.framing.specs.Bytes.{step_of}

@@ -18,7 +18,9 @@ use Rattle.kinds.specs.Kinds.{size_of, device_of}
 use Rattle.kinds.proofs.AnyKind.{size-bounds, device_low}
 use Rattle.programs.specs.declared.Player.{Player}
 use Rattle.programs.specs.Memory.{memory_size}
-use Rattle.programs.specs.Held.{Held, Target, One, Edit, All, place_for, count_for}
+use Rattle.programs.specs.declared.Target.{Target}
+use Rattle.programs.specs.declared.Target.TheVariants.{One, Edit, All}
+use Rattle.programs.specs.Held.{Held, place_for, count_for}
 use Rattle.programs.proofs.Slots.{sent_most}
 use Rattle.programs.proofs.Players.{edit-inside}
 use Rattle.sysex.specs.declared.Settings.{Settings}

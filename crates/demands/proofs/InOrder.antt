@@ -16,7 +16,8 @@ use Rattle.kinds.specs.declared.Kind.{Kind}
 use Rattle.kinds.specs.Kinds.{kind_test, kind_of, size_of}
 use Rattle.programs.specs.declared.Player.{Player}
 use Rattle.programs.specs.Memory.{player_test, player_of, memory_size, edit_place, part_of}
-use Rattle.programs.specs.Held.{Held, Edit, bytes_in}
+use Rattle.programs.specs.declared.Target.TheVariants.{Edit}
+use Rattle.programs.specs.Held.{Held, bytes_in}
 use Rattle.programs.proofs.Parts.{edit-length}
 use Rattle.controls.specs.Table.{row_of}
 use Rattle.controls.specs.Refusals.{move_tests}

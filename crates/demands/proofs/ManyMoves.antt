@@ -15,7 +15,8 @@ use Rattle.kinds.specs.declared.Kind.{Kind}
 use Rattle.kinds.specs.Kinds.{kind_of}
 use Rattle.programs.specs.declared.Player.{Player}
 use Rattle.programs.specs.Memory.{player_of, memory_size}
-use Rattle.programs.specs.Held.{Held, Edit, bytes_in}
+use Rattle.programs.specs.declared.Target.TheVariants.{Edit}
+use Rattle.programs.specs.Held.{Held, bytes_in}
 use Rattle.programs.proofs.Parts.{edit-length}
 use Rattle.controls.specs.Applying.{Changed, apply_of}
 use Rattle.controls.proofs.Controllers.{apply_cases, length-kept}

@@ -14,7 +14,9 @@ use Rattle.kinds.specs.declared.Kind.{Kind}
 use Rattle.kinds.specs.Kinds.{has_spare}
 use Rattle.programs.specs.declared.Player.{Player}
 use Rattle.programs.specs.Memory.{mark_count, put_part}
-use Rattle.programs.specs.Held.{Held, Target, One, Edit, All, slot_for, slots_for, marked}
+use Rattle.programs.specs.declared.Target.{Target}
+use Rattle.programs.specs.declared.Target.TheVariants.{One, Edit, All}
+use Rattle.programs.specs.Held.{Held, slot_for, slots_for, marked}
 use Rattle.programs.proofs.Parts.{put-length, put-append}
 use Rattle.programs.proofs.Slots.{marked-length}
 use Rattle.programs.proofs.Players.{slot_inside}

@@ -9,7 +9,9 @@ use Rattle.kinds.specs.Kinds.{size_of}
 use Rattle.programs.specs.declared.Player.{Player}
 use Rattle.programs.specs.declared.Player.TheVariants as players
 use Rattle.programs.specs.Memory.{program_count, edit_slot, edit_place, all_size, memory_size, mark_count, part_of, put_part}
-use Rattle.programs.specs.Held.{Held, held_of, Target, One, Edit, All, place_for, count_for, slot_for, slots_for}
+use Rattle.programs.specs.declared.Target.{Target}
+use Rattle.programs.specs.declared.Target.TheVariants.{One, Edit, All}
+use Rattle.programs.specs.Held.{Held, held_of, place_for, count_for, slot_for, slots_for}
 use Rattle.programs.proofs.Players.{slot_inside, edit-inside, edit_apart}
 use Rattle.programs.proofs.Parts.{part_put, part_before, part_behind, part_over, part_in_part, put-length, other_part}
 use Rattle.carrying.proofs.Parts.{program-inside}

@@ -16,7 +16,8 @@ use Rattle.kinds.specs.declared.Kind.TheVariants.{Pod, BassPod, PodPro}
 use Rattle.kinds.specs.Kinds.{kind_of, size_of, takes_program_change}
 use Rattle.programs.specs.declared.Player.{Player}
 use Rattle.programs.specs.Memory.{player_of, program_count, memory_size}
-use Rattle.programs.specs.Held.{Held, One, Edit, bytes_in}
+use Rattle.programs.specs.declared.Target.TheVariants.{One, Edit}
+use Rattle.programs.specs.Held.{Held, bytes_in}
 use Rattle.controls.specs.declared.Change.{Change}
 use Rattle.controls.specs.declared.Change.TheVariants as change
 use Rattle.controls.specs.Applying.{apply_of}

@@ -7,7 +7,8 @@ use lib.Seq.{take_all}
 use borrow.Author.Tests.{leb-true, eq-eqb}
 use Rattle.kinds.specs.Kinds.{kind_of, size_of}
 use Rattle.programs.specs.Memory.{last_program, player_of, program_place, edit_place, all_size, part_of}
-use Rattle.programs.specs.Held.{Held, One, Edit, bytes_in}
+use Rattle.programs.specs.declared.Target.TheVariants.{One, Edit}
+use Rattle.programs.specs.Held.{Held, bytes_in}
 use Rattle.carrying.proofs.Parts.{program-inside}
 use Rattle.screen.specs.Parts.{Slice, Shown}
 use Rattle.screen.specs.Screen.{screen_of}

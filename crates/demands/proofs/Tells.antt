@@ -11,7 +11,8 @@ use Rattle.ground.proofs.Tests.{by}
 use Rattle.ground.proofs.InOrder.{first-named, tested_cases}
 use Rattle.kinds.specs.declared.Kind.{Kind}
 use Rattle.programs.specs.declared.Player.{Player}
-use Rattle.programs.specs.Held.{Held, Edit, bytes_in}
+use Rattle.programs.specs.declared.Target.TheVariants.{Edit}
+use Rattle.programs.specs.Held.{Held, bytes_in}
 use Rattle.controls.specs.declared.Change.{Change}
 use Rattle.controls.specs.declared.Change.TheVariants as change
 use Rattle.controls.specs.Applying.{Changed, apply_of}

@@ -4,7 +4,9 @@ use Rattle.kinds.specs.declared.Kind.{Kind}
 use Rattle.kinds.specs.Kinds.{kind_of}
 use Rattle.programs.specs.declared.Player.{Player}
 use Rattle.programs.specs.Memory.{program_count, all_size, part_of}
-use Rattle.programs.specs.Held.{Held, held_of, Target, One, Edit, All, bytes_in, slot_for, slots_for}
+use Rattle.programs.specs.declared.Target.{Target}
+use Rattle.programs.specs.declared.Target.TheVariants.{One, Edit, All}
+use Rattle.programs.specs.Held.{Held, held_of, bytes_in, slot_for, slots_for}
 use Rattle.sockets.specs.Framer.{Message, SysEx, TooLong, Channel}
 use Rattle.sockets.specs.Calls.{Socket, if_same}
 use Rattle.sockets.specs.Promise.{socket_of}

@@ -4,7 +4,8 @@ use Rattle.kinds.specs.declared.Kind.{Kind}
 use Rattle.kinds.specs.Kinds.{size_of}
 use Rattle.programs.specs.declared.Player.{Player}
 use Rattle.programs.specs.Memory.{program_count, last_program, edit_place}
-use Rattle.programs.specs.Held.{Held, One, Edit, bytes_in}
+use Rattle.programs.specs.declared.Target.TheVariants.{One, Edit}
+use Rattle.programs.specs.Held.{Held, bytes_in}
 use Rattle.controls.specs.Table.{row_of}
 use Rattle.controls.specs.Applying.{store_row}
 use Rattle.sysex.specs.declared.Settings.{Settings}

@@ -4,7 +4,8 @@ use Rattle.std.specs.Prelude.{ℕ, Bool, List, [], ◌⊎◌, ◌↔◌, ◌≡�
 use Rattle.ground.specs.Calls.{outcome}
 use Rattle.kinds.specs.declared.Kind.{Kind}
 use Rattle.programs.specs.declared.Player.{Player}
-use Rattle.programs.specs.Held.{Held, Target, store_in}
+use Rattle.programs.specs.declared.Target.{Target}
+use Rattle.programs.specs.Held.{Held, store_in}
 use Rattle.sysex.specs.declared.Settings.{Settings}
 use Rattle.sysex.specs.declared.Answer.TheVariants.{Stored, Sent}
 use Rattle.sysex.specs.Forms.{identity_reply}

@@ -4,7 +4,8 @@ use Rattle.kinds.specs.declared.Kind.{Kind}
 use Rattle.kinds.specs.Kinds.{size_of, has_spare, header_of}
 use Rattle.programs.specs.declared.Player.{Player}
 use Rattle.programs.specs.Memory.{part_of}
-use Rattle.programs.specs.Held.{Held, Target, place_for, count_for, slot_for, slots_for}
+use Rattle.programs.specs.declared.Target.{Target}
+use Rattle.programs.specs.Held.{Held, place_for, count_for, slot_for, slots_for}
 use Rattle.sockets.specs.Framer.{Message, SysEx, TooLong, Channel}
 use Rattle.sockets.specs.Calls.{Finish, FromSocket, FromDirect}
 use Rattle.sysex.specs.Forms.{begins, opcode_of, type_of, whole_length, shortest, ended}

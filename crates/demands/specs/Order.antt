@@ -7,7 +7,8 @@ use Rattle.kinds.specs.declared.Kind.{Kind}
 use Rattle.kinds.specs.Kinds.{kind_test, kind_of, size_of}
 use Rattle.programs.specs.declared.Player.{Player}
 use Rattle.programs.specs.Memory.{player_test, player_of, edit_place, part_of}
-use Rattle.programs.specs.Held.{Held, Edit, bytes_in}
+use Rattle.programs.specs.declared.Target.TheVariants.{Edit}
+use Rattle.programs.specs.Held.{Held, bytes_in}
 use Rattle.controls.specs.declared.Reading.{Reading}
 use Rattle.controls.specs.declared.Reading.TheVariants as reading
 use Rattle.controls.specs.Table.{row_of}

@@ -5,13 +5,18 @@ use mathlib.Core.List.{List}
 use mathlib.Core.Path.{◌≡◌}
 use Rattle.ground.proofs.OneResult.{one}
 use Rattle.kinds.specs.declared.Kind.{Kind}
-use Rattle.kinds.specs.Kinds.{is_kind, kind_of, size_of, has_spare, device_of, header_of, identity_of, takes_program_change, highest_model, is_known_model}
+use Rattle.std.specs.Prelude.{Result}
+use Rattle.ground.specs.declared.Refusal.{Refusal}
+use Rattle.kinds.specs.Kinds.{is_kind, kind_of, kind_numbered, size_of, has_spare, device_of, header_of, identity_of, takes_program_change, highest_model, is_known_model}
 
 pub is_kind-one : (number : ℕ) (r s : Bool) → r ≡ is_kind number → s ≡ is_kind number → r ≡ s
 is_kind-one number r s = one
 
 pub kind_of-one : (number : ℕ) (r s : Kind) → r ≡ kind_of number → s ≡ kind_of number → r ≡ s
 kind_of-one number r s = one
+
+pub try_from-one : (number : ℕ) (r s : Result Kind Refusal) → r ≡ kind_numbered number → s ≡ kind_numbered number → r ≡ s
+try_from-one number r s = one
 
 pub size-one : (kind : Kind) (r s : ℕ) → r ≡ size_of kind → s ≡ size_of kind → r ≡ s
 size-one kind r s = one

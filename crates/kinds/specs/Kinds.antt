@@ -1,7 +1,9 @@
 -- "A box is set as POD or Bass POD before use", and since Req 07 as POD Pro, "a third kind": the kinds, and all that hangs on the kind. Of a POD Pro "all else is as
 -- for a POD".
-use Rattle.std.specs.Prelude.{ℕ, Bool, true, false, cond, List, [], ◌∷◌, eqb, leb}
-use Rattle.ground.specs.Tests.{Test, test}
+use Rattle.std.specs.Prelude.{ℕ, Bool, true, false, cond, List, [], ◌∷◌, ◌≡◌, ◌≢◌, eqb, leb, codes, Result, Ok, Err}
+use Rattle.ground.specs.declared.Refusal.{Refusal}
+use Rattle.ground.specs.declared.Refusal.TheVariants.{Unsound}
+use Rattle.ground.specs.Tests.{Test, test, tested}
 use Rattle.kinds.specs.declared.Kind.{Kind}
 use Rattle.kinds.specs.declared.Kind.TheVariants.{Pod, BassPod, PodPro}
 
@@ -10,11 +12,22 @@ unfoldable pub is_kind : ℕ → Bool
 is_kind kind_number = leb kind_number 2
 
 -- 32 "a kind that is neither gives 32, just before 30"
-abbrev pub kind_test : ℕ → Test ℕ
-kind_test kind_number = test 32 (is_kind kind_number)
+abbrev pub kind_test : ℕ → Test Refusal
+kind_test kind_number = test Unsound (is_kind kind_number)
 
 unfoldable pub kind_of : ℕ → Kind
 kind_of kind_number = cond (eqb kind_number 1) BassPod (cond (eqb kind_number 2) PodPro Pod)
+
+-- a number's kind, or its refusal
+unfoldable pub kind_numbered : ℕ → Result Kind Refusal
+kind_numbered kind_number = tested (kind_test kind_number ∷ []) Err (Ok (kind_of kind_number))
+
+-- the kind that a program's word names: `pod`, `bass` or `pro`, and no other word names one
+pub record IsKindNamed (word : List ℕ) (kind : Result Kind Refusal) : Type 0 where
+  pub pod : word ≡ codes "pod" → kind ≡ Ok Pod
+  pub bass : word ≡ codes "bass" → kind ≡ Ok BassPod
+  pub pro : word ≡ codes "pro" → kind ≡ Ok PodPro
+  pub none : word ≢ codes "pod" → word ≢ codes "bass" → word ≢ codes "pro" → kind ≡ Err Unsound
 
 -- the number of a kind
 unfoldable pub number_of : Kind → ℕ

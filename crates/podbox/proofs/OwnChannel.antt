@@ -11,7 +11,8 @@ use Rattle.kinds.specs.declared.Kind.{Kind}
 use Rattle.kinds.specs.Kinds.{size_of}
 use Rattle.programs.specs.declared.Player.{Player}
 use Rattle.programs.specs.Memory.{memory_size}
-use Rattle.programs.specs.Held.{Held, Edit, place_for, bytes_in}
+use Rattle.programs.specs.declared.Target.TheVariants.{Edit}
+use Rattle.programs.specs.Held.{Held, place_for, bytes_in}
 use Rattle.programs.proofs.Players.{edit-inside}
 use Rattle.programs.proofs.Parts.{put-length, edit-length}
 use Rattle.controls.specs.Applying.{apply_of}

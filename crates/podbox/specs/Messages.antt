@@ -6,7 +6,8 @@ use Rattle.kinds.specs.declared.Kind.{Kind}
 use Rattle.kinds.specs.Kinds.{takes_program_change}
 use Rattle.programs.specs.declared.Player.{Player}
 use Rattle.programs.specs.Memory.{program_count}
-use Rattle.programs.specs.Held.{Held, One, Edit, bytes_in, put_in}
+use Rattle.programs.specs.declared.Target.TheVariants.{One, Edit}
+use Rattle.programs.specs.Held.{Held, bytes_in, put_in}
 use Rattle.controls.specs.declared.Change.{Change}
 use Rattle.controls.specs.declared.Change.TheVariants as change
 use Rattle.controls.specs.Applying.{apply_of}

@@ -12,7 +12,9 @@ use Rattle.kinds.specs.Kinds.{size_of, has_spare}
 use Rattle.kinds.proofs.AnyKind.{size-bounds}
 use Rattle.programs.specs.declared.Player.{Player}
 use Rattle.programs.specs.Spares.{without_spares}
-use Rattle.programs.specs.Held.{Held, Target, One, Edit, All, place_for, count_for, bytes_in, slot_for, slots_for, sent_size, sent_for, received, marked, goes_long, bytes_out}
+use Rattle.programs.specs.declared.Target.{Target}
+use Rattle.programs.specs.declared.Target.TheVariants.{One, Edit, All}
+use Rattle.programs.specs.Held.{Held, place_for, count_for, bytes_in, slot_for, slots_for, sent_size, sent_for, received, marked, goes_long, bytes_out}
 use Rattle.programs.proofs.Parts.{put-length}
 use Rattle.programs.proofs.Spares.{with_length, without_length}
 

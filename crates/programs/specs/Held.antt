@@ -3,6 +3,8 @@ use Rattle.std.specs.Prelude.{ℕ, ◌-◌, ◌*◌, Bool, true, cond, List, rep
 use Rattle.kinds.specs.declared.Kind.{Kind}
 use Rattle.kinds.specs.Kinds.{size_of, has_spare}
 use Rattle.programs.specs.declared.Player.{Player}
+use Rattle.programs.specs.declared.Target.{Target}
+use Rattle.programs.specs.declared.Target.TheVariants.{One, Edit, All}
 use Rattle.programs.specs.Memory.{program_count, program_place, edit_slot, edit_place, all_size, part_of, put_part}
 use Rattle.programs.specs.Spares.{with_spares, without_spares, all_set}
 
@@ -14,12 +16,7 @@ pub record Held : Type 0 where
 abbrev pub held_of : List ℕ → List ℕ → Held
 held_of memory marks = record { memory = memory; marks = marks }
 
--- what a dump or a request names: one program, the edit buffer of its sender, all programs
-pub data Target : Type 0 where
-  One : ℕ → Target
-  Edit All : Target
-
--- where it stands in memory for a player, and how many bytes it has
+-- where what a dump or a request names stands in memory for a player, and how many bytes it has
 abbrev pub place_for : Kind → Player → Target → ℕ
 place_for kind player (One p) = program_place kind p
 place_for kind player Edit = edit_place kind player

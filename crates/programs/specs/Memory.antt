@@ -1,6 +1,8 @@
 -- "The box and what it holds". Every length derives from the kind, by the size of its programs.
-use Rattle.std.specs.Prelude.{ℕ, ◌+◌, ◌*◌, Bool, cond, List, ◌++◌, eqb, leb, take, drop}
-use Rattle.ground.specs.Tests.{Test, test}
+use Rattle.std.specs.Prelude.{ℕ, ◌+◌, ◌*◌, Bool, cond, List, [], ◌∷◌, ◌++◌, eqb, leb, take, drop, Result, Ok, Err}
+use Rattle.ground.specs.declared.Refusal.{Refusal}
+use Rattle.ground.specs.declared.Refusal.TheVariants.{NoPlayer}
+use Rattle.ground.specs.Tests.{Test, test, tested}
 use Rattle.kinds.specs.declared.Kind.{Kind}
 use Rattle.kinds.specs.Kinds.{size_of}
 use Rattle.programs.specs.declared.Player.{Player}
@@ -23,11 +25,15 @@ unfoldable pub is_player : ℕ → Bool
 is_player player_number = leb player_number 1
 
 -- 31 "socket not 0 or 1", and "wherever a named player is not 0 or 1"
-abbrev pub player_test : ℕ → Test ℕ
-player_test player_number = test 31 (is_player player_number)
+abbrev pub player_test : ℕ → Test Refusal
+player_test player_number = test NoPlayer (is_player player_number)
 
 unfoldable pub player_of : ℕ → Player
 player_of player_number = cond (eqb player_number 0) players.One players.Two
+
+-- a number's player, or its refusal
+unfoldable pub player_numbered : ℕ → Result Player Refusal
+player_numbered player_number = tested (player_test player_number ∷ []) Err (Ok (player_of player_number))
 
 -- "each has an edit buffer, both share the 36 programs. Memory grows by one edit buffer, player two's, last."
 unfoldable pub edit_slot : Player → ℕ

@@ -1,10 +1,12 @@
 // The programs and the players' edit buffers in memory: how many there are, and where they stand. All lengths of the box
 // derive from these and from the kind.
-#![tactic(auto)]
+#![tactic(auto, unfolding(crate::specs::Memory::player_numbered, crate::specs::Memory::is_player, crate::specs::Memory::player_of, crate::specs::Memory::edit_slot))]
 
 ghost use Rattle.std.specs.Prelude.{◌≡◌};
 ghost use Rattle.programs.specs.Memory.{is_player, player_of, edit_slot, edit_place, memory_size};
+ghost use Rattle.programs.specs.Held.{place_for, count_for, slot_for, slots_for};
 
+use ground::Refusal;
 use kinds::Kind;
 
 pub const PROGRAMS: usize = 36;
@@ -13,7 +15,7 @@ pub const PROGRAMS: usize = 36;
 pub const MARKS: usize = PROGRAMS + 2;
 
 // The two who play: each has an edit buffer, and they share the programs.
-#[derive(Clone, Copy)]
+#[derive(Clone, Copy, Debug, PartialEq, Eq)]
 pub enum Player {
     One,
     Two,
@@ -30,32 +32,98 @@ pub fn is_player(number: u32) -> bool
 pub fn player_of(number: u32) -> Player
     ensures { result ≡ player_of number }
 {
-    if number == 0 {
-        return Player::One;
+    match number {
+        0 => Player::One,
+        _ => Player::Two,
     }
-    Player::Two
+}
+
+// The player of a number, or its refusal.
+impl TryFrom<u32> for Player {
+    ghost use Rattle.std.specs.Prelude.{◌≡◌};
+    ghost use Rattle.programs.specs.Memory.{player_numbered};
+
+    type Error = Refusal;
+
+    ghost try_from_gives = { λ number player. player ≡ player_numbered number };
+
+    fn try_from(number: u32) -> Result<Player, Refusal> {
+        if is_player(number) {
+            Ok(player_of(number))
+        } else {
+            Err(Refusal::NoPlayer)
+        }
+    }
 }
 
 // The bytes of memory: the programs, and the two edit buffers behind them.
 pub fn memory_size(kind: Kind) -> usize
     ensures { result ≡ memory_size kind }
 {
-    (PROGRAMS + 2) * kinds::size(kind) as usize
+    (PROGRAMS + 2) * kind.size() as usize
 }
 
-// The number of a player's edit buffer, behind those of the programs.
-pub fn edit_slot(player: Player) -> usize
-    ensures { result ≡ edit_slot player }
-{
-    match player {
-        Player::One => PROGRAMS,
-        Player::Two => PROGRAMS + 1,
+impl Player {
+    // The number of a player's edit buffer, behind those of the programs.
+    pub fn edit_slot(self) -> usize
+        ensures { result ≡ edit_slot self }
+    {
+        match self {
+            Player::One => PROGRAMS,
+            Player::Two => PROGRAMS + 1,
+        }
+    }
+
+    // Where it begins.
+    pub fn edit_place(self, kind: Kind) -> usize
+        ensures { result ≡ edit_place kind self }
+    {
+        self.edit_slot() * kind.size() as usize
     }
 }
 
-// Where it begins.
-pub fn edit_place(kind: Kind, player: Player) -> usize
-    ensures { result ≡ edit_place kind player }
-{
-    edit_slot(player) * kinds::size(kind) as usize
+// What a dump or a request names: one program, the edit buffer of its sender, all programs.
+#[derive(Clone, Copy, Debug, PartialEq, Eq)]
+pub enum Target {
+    One(u8),
+    Edit,
+    All,
+}
+
+impl Target {
+    // Its first slot, in the order of memory and of the marks.
+    pub fn slot(self, player: Player) -> usize
+        ensures { result ≡ slot_for player self }
+    {
+        match self {
+            Target::One(program) => program as usize,
+            Target::Edit => player.edit_slot(),
+            Target::All => 0,
+        }
+    }
+
+    // How many slots it has.
+    pub fn slots(self) -> usize
+        ensures { result ≡ slots_for self }
+    {
+        match self {
+            Target::One(_) => 1,
+            Target::Edit => 1,
+            Target::All => PROGRAMS,
+        }
+    }
+
+    // Where it begins in memory.
+    pub fn place(self, kind: Kind, player: Player) -> usize
+        ensures { result ≡ place_for kind player self }
+    {
+        self.slot(player) * kind.size() as usize
+    }
+
+    // How many bytes it has.
+    pub fn count(self, kind: Kind) -> usize
+        ensures { result ≡ count_for kind self }
+    {
+        self.slots() * kind.size() as usize
+    }
 }

@@ -5,7 +5,9 @@ use Rattle.halves.specs.HalfBytes.{join}
 use Rattle.kinds.specs.declared.Kind.{Kind}
 use Rattle.kinds.specs.Kinds.{has_spare}
 use Rattle.programs.specs.Memory.{last_program}
-use Rattle.programs.specs.Held.{Target, One, Edit, All, sent_for}
+use Rattle.programs.specs.declared.Target.{Target}
+use Rattle.programs.specs.declared.Target.TheVariants.{One, Edit, All}
+use Rattle.programs.specs.Held.{sent_for}
 use Rattle.sysex.specs.declared.Settings.{Settings}
 use Rattle.sysex.specs.declared.Check.{Check}
 use Rattle.sysex.specs.declared.Order.{Order}

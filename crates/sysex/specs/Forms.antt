@@ -4,7 +4,9 @@ use Rattle.halves.specs.HalfBytes.{split}
 use Rattle.kinds.specs.declared.Kind.{Kind}
 use Rattle.kinds.specs.Kinds.{has_spare, header_of, identity_of}
 use Rattle.programs.specs.Memory.{program_count}
-use Rattle.programs.specs.Held.{Target, One, Edit, All, count_for, sent_size}
+use Rattle.programs.specs.declared.Target.{Target}
+use Rattle.programs.specs.declared.Target.TheVariants.{One, Edit, All}
+use Rattle.programs.specs.Held.{count_for, sent_size}
 use Rattle.sysex.specs.declared.Settings.{Settings}
 
 -- a list's first bytes are those of another

@@ -3,7 +3,8 @@ use mathlib.Core.Path.{refl, ap, ◌∙◌}
 use native.Mathlib.Omega.{arith}
 use Rattle.ground.specs.Calls.{left}
 use Rattle.kinds.proofs.AnyKind.{size-bounds}
-use Rattle.programs.specs.Held.{Held, held_of, One, Edit, All}
+use Rattle.programs.specs.declared.Target.TheVariants.{One, Edit, All}
+use Rattle.programs.specs.Held.{Held, held_of}
 use Rattle.programs.proofs.Players.{slot_inside}
 use Rattle.sysex.specs.declared.Answer.TheVariants.{Stored, Sent}
 use Rattle.carrying.specs.Carrying.{order_does}

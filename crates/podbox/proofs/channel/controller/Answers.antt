@@ -9,7 +9,8 @@ use Rattle.ground.specs.Calls.{outcome}
 use Rattle.kinds.specs.Kinds.{size_of}
 use Rattle.kinds.proofs.AnyKind.{size-bounds}
 use Rattle.programs.specs.Memory.{edit_place, put_part}
-use Rattle.programs.specs.Held.{held_of, Edit, bytes_in, put_in}
+use Rattle.programs.specs.declared.Target.TheVariants.{Edit}
+use Rattle.programs.specs.Held.{held_of, bytes_in, put_in}
 use Rattle.programs.proofs.Players.{edit-inside}
 use Rattle.controls.specs.Answers.{change_number}
 use Rattle.controls.specs.Applying.{Changed, apply_of}
