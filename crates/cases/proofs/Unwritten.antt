@@ -18,12 +18,11 @@ use Rattle.sockets.specs.Calls.{Socket}
 use Rattle.sockets.specs.Box.{Lent, lent, took, happening_does, direct_does}
 use Rattle.sockets.specs.Promise.{happening_of, socket_of, step_does, byte_of, direct_of}
 use Rattle.sysex.specs.declared.Settings.{Settings}
-use Rattle.sysex.specs.declared.Answer.{Answer}
 use Rattle.sysex.specs.Forms.{longest}
 use Rattle.sysex.specs.Numbers.{answer_length}
 use Rattle.carrying.specs.Carrying.{Outcome, Left}
 use Rattle.podbox.specs.Whole.{body_of, message_order}
-use Rattle.podbox.specs.Box.{limit, take_tests, whole_tests, Whole, socket_player, plain_answer, box_rules}
+use Rattle.podbox.specs.Box.{limit, take_tests, whole_tests, Whole, socket_player, box_rules}
 use Rattle.demands.proofs.Tells.{Tells, order_tells, message_tells}
 use Rattle.cases.specs.ShutOut.{pod, promised, ShutOut, ShutOutWhole, Unwritten, left_by, TellsUnwritten, TellsUnwrittenWhole}
 use Rattle.cases.proofs.ShutOut.{shut, shut_whole}
@@ -40,14 +39,14 @@ none_told k number =
     by P (eqb number 0) _ _ (λ _ below. omega arith) (λ _. by P (eqb number 4) _ _ (λ _ below. omega arith) (λ _ below. omega arith))
 
 -- what a call leaves behind its tests
-abbrev behind : Outcome → Held → (List ℕ → List (Test ℕ)) → List ℕ → Left
-behind o held tests reply = tested (tests reply) (λ number. left (plain_answer number) held reply) (leaves o reply)
+abbrev behind : Outcome → Held → (List ℕ → List (Test Refusal)) → List ℕ → Left
+behind o held tests reply = tested (tests reply) (λ why. left (Err why) held reply) (leaves o reply)
 
-module _ (k : ℕ) (o : Outcome) (held : Held) (tests : List ℕ → List (Test ℕ)) (tells : Tells o) where
+module _ (k : ℕ) (o : Outcome) (held : Held) (tests : List ℕ → List (Test Refusal)) (tells : Tells o) where
   -- a byte that is told was sent
   told-sent : (reply : List ℕ) → k < answer_length (behind o held tests reply).answer → get_or (behind o held tests reply).reply k 0 ≡ get_or o.sent k 0
   told-sent reply =
-      tested_cases (λ (l : Left). k < answer_length l.answer → get_or l.reply k 0 ≡ get_or o.sent k 0) (tests reply) (λ number. left (plain_answer number) held reply) (leaves o reply)
+      tested_cases (λ (l : Left). k < answer_length l.answer → get_or l.reply k 0 ≡ get_or o.sent k 0) (tests reply) (λ why. left (Err why) held reply) (leaves o reply)
       (λ _ below. get_or-append o.sent _ 0 k (omega arith))
       (λ number _ below. absurd (none_told k number below))
 

@@ -6,7 +6,7 @@ use Rattle.kinds.specs.Kinds.{size_of}
 use Rattle.programs.specs.Memory.{all_size}
 use Rattle.programs.specs.declared.Target.TheVariants.{One, All}
 use Rattle.sysex.specs.declared.Order.{Order}
-use Rattle.sysex.specs.declared.Order.TheVariants.{Identify, SendProgram, SendAll, StoreProgram, StoreAll, Refused}
+use Rattle.sysex.specs.declared.Order.TheVariants.{Identify, Send, Store}
 use Rattle.sysex.specs.declared.Check.TheVariants.{TooLong, Ours, OpcodeAndType, Length, Program, Version, HalfBytes, Channel}
 use Rattle.sysex.specs.Forms.{request_body, dump_body, identity_body, ended}
 use Rattle.podbox.specs.Whole.{reason_of}
