@@ -1,4 +1,6 @@
 -- "one that reports a reply length it did not write", byte by byte: at no call is a byte told that was not written.
+use Rattle.std.specs.Prelude.{Err}
+use Rattle.ground.specs.declared.Refusal.{Refusal}
 use Prim.Native.Nat.{ℕ, suc, ◌+◌, ◌<◌}
 use mathlib.Core.List.{List, []}
 use mathlib.Core.Path.{◌≡◌, refl, sym, subst, ◌∙◌}
@@ -32,12 +34,6 @@ happening_tells settings held s Nothing = refl
 happening_tells settings held s Cut = refl
 happening_tells settings held s (Finished m) = message_tells (kind_of pod) settings (socket_player s) held m
 
--- a call that is turned away tells none
-none_told : (k number : ℕ) → k < answer_length (plain_answer number) → ⊥
-none_told k number =
-    let P : Answer → Type 0 = λ a. k < answer_length a → ⊥ in
-    by P (eqb number 0) _ _ (λ _ below. omega arith) (λ _. by P (eqb number 4) _ _ (λ _ below. omega arith) (λ _ below. omega arith))
-
 -- what a call leaves behind its tests
 abbrev behind : Outcome → Held → (List ℕ → List (Test Refusal)) → List ℕ → Left
 behind o held tests reply = tested (tests reply) (λ why. left (Err why) held reply) (leaves o reply)
@@ -48,7 +44,7 @@ module _ (k : ℕ) (o : Outcome) (held : Held) (tests : List ℕ → List (Test 
   told-sent reply =
       tested_cases (λ (l : Left). k < answer_length l.answer → get_or l.reply k 0 ≡ get_or o.sent k 0) (tests reply) (λ why. left (Err why) held reply) (leaves o reply)
       (λ _ below. get_or-append o.sent _ 0 k (omega arith))
-      (λ number _ below. absurd (none_told k number below))
+      (λ why _ below. absurd (omega arith))
 
   -- and no byte is that of a buffer of zeros and that of a buffer of ones
   never_unwritten : Unwritten k (behind o held tests) → ⊥
@@ -67,7 +63,7 @@ byte_left : (settings : Settings) (socket byte : ℕ) (entry : Lent Held)
     → left_by (promised settings socket byte entry) ≡ behind (byte_does settings socket byte entry) entry.held (λ reply. take_tests pod settings socket entry) entry.reply
 unfolding byte_of step_does
 byte_left settings socket byte entry =
-    tested-map left_by (take_tests pod settings socket entry) (λ number. took entry.receiver (plain_answer number) entry.held entry.receive entry.reply)
+    tested-map left_by (take_tests pod settings socket entry) (λ why. took entry.receiver (Err why) entry.held entry.receive entry.reply)
     (step_does (box_rules pod settings) (socket_of socket) byte entry (step_of (limit (kind_of pod)) entry.receiver byte))
 
 pub unwritten : ShutOut TellsUnwritten

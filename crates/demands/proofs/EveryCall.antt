@@ -1,4 +1,6 @@
 -- Demand 1: every byte on either socket, in any state, is answered, and so is every message of the panel; and what each answer leaves.
+use Rattle.sysex.specs.declared.Answer.{Answer}
+use Rattle.ground.specs.declared.Refusal.{Refusal}
 use Rattle.std.specs.Prelude.{Result, Ok, Err}
 use Prim.Native.Nat.{ℕ, ◌≤◌}
 use mathlib.Core.List.{List}
@@ -41,7 +43,7 @@ use Rattle.demands.proofs.Carried.{Tame, stores, sends, applies, refuses, messag
 use Rattle.demands.proofs.Marks.{marking_length, message_marks, handed_marks}
 
 -- "The reply length is 0 unless the number is 2."
-pub length-zero : (a : Answered) → (answer_number a ≡ 2 → ⊥) → answer_length a ≡ 0
+pub length-zero : (a : Result Answer Refusal) → (answer_number a ≡ 2 → ⊥) → answer_length a ≡ 0
 length-zero (Ok Taken) n = refl
 length-zero (Ok Stored) n = refl
 length-zero (Ok (Sent count)) n = absurd (n refl)
@@ -50,7 +52,7 @@ length-zero (Ok Cut) n = refl
 length-zero (Err why) n = refl
 
 -- where nothing changes
-unchanged : (kind : Kind) (held : Held) (reply : List ℕ) (answer : Answered) → answer_length answer ≡ 0 → Confined kind held reply (left answer held reply)
+unchanged : (kind : Kind) (held : Held) (reply : List ℕ) (answer : Result Answer Refusal) → answer_length answer ≡ 0 → Confined kind held reply (left answer held reply)
 unchanged kind held reply answer none = record { refused = λ _. (refl, refl); kept = λ _ _. refl; marks_kept = λ _. refl; behind = refl; fits = omega arith; length-kept = (refl, refl) }
 
 -- what was carried out
@@ -112,7 +114,7 @@ module _ (kind_number : ℕ) (settings : Settings) (r : Receiver) (byte : ℕ) (
       let below = n.1 in
       record { numbered = n.0; confined = k; turned_away = λ h. absurd (omega arith); stepped = λ _. refl; placed = one }
 
-  quiet : (answer : Answered) (place : List ℕ) → answer_number answer ≤ 4 → answer_length answer ≡ 0 → OnePlace (kind_of kind_number) r byte receive place
+  quiet : (answer : Result Answer Refusal) (place : List ℕ) → answer_number answer ≤ 4 → answer_length answer ≡ 0 → OnePlace (kind_of kind_number) r byte receive place
       → Answered (kind_of kind_number) r byte held receive reply (took (step_of (limit (kind_of kind_number)) r byte).receiver answer held place reply)
   quiet answer place small none one = with_step place (left answer held reply) (unchanged (kind_of kind_number) held reply answer none) (inl small, omega arith) one
 
