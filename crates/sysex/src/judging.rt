@@ -1,9 +1,9 @@
 // The tests of a body, in their order.
 ghost use Rattle.std.specs.Prelude.{◌≡◌, ◌<◌, length};
-ghost use Rattle.programs.specs.Held.{sent_size, sent_for};
-ghost use Rattle.sysex.specs.Forms.{version_place, body_length, longest, type_for, is_our_channel};
-ghost use Rattle.sysex.specs.Judging.{judged_by, form_tests, data_tests, form_order, judge_of};
-ghost use Rattle.sysex.specs.Private.{passes, opcode_byte, identity_in, form_in, target_in, channel_test, length_test, program_test};
+ghost use Rattle.programs.specs.Held.{sent_for};
+ghost use Rattle.sysex.specs.Forms.{version_place, body_length, longest, type_for};
+ghost use Rattle.sysex.specs.Judging.{judged_by, form_tests, form_order, judge_of};
+ghost use Rattle.sysex.specs.Private.{behind, opcode_byte, identity_in, form_in, target_in, channel_test, length_test, program_test, version_test, halves_test};
 
 use crate::{Check, Order, Settings};
 use kinds::Kind;
@@ -39,7 +39,7 @@ impl TryFrom<u8> for Opcode {
 
     type Error = Check;
 
-    ghost try_from_gives = { λ opcode_byte opcode. opcode ≡ opcode_in opcode_byte };
+    ghost try_from_gives = { λ byte opcode. opcode ≡ opcode_in byte };
 
     fn try_from(byte: u8) -> Result<Opcode, Check> {
         match byte {
@@ -54,7 +54,7 @@ impl TryFrom<u8> for Opcode {
 pub fn judge(body: &[u8], kind: Kind, settings: Settings) -> Result<Order, Check>
     ensures { result ≡ judge_of kind settings body.now }
 {
-    if let Some(cc) = identity(body) {
+    if let Some(cc) = identity_in(body) {
         channel_judged(settings, cc)?;
         return Ok(Order::Identify(cc));
     }
@@ -66,7 +66,7 @@ pub fn judge(body: &[u8], kind: Kind, settings: Settings) -> Result<Order, Check
 }
 
 // The cc of a body that is an identity request.
-fn identity(body: &[u8]) -> Option<u8>
+fn identity_in(body: &[u8]) -> Option<u8>
     ensures { result ≡ identity_in body.now }
 {
     match body {
@@ -76,7 +76,7 @@ fn identity(body: &[u8]) -> Option<u8>
 }
 
 fn channel_judged(settings: Settings, cc: u8) -> Result<(), Check>
-    ensures { result ≡ passes (channel_test settings cc) }
+    ensures { result ≡ behind (channel_test settings cc) tt }
 {
     if cc == settings.channel || cc == 0x7F || settings.omni == 1 {
         Ok(())
@@ -89,12 +89,13 @@ fn channel_judged(settings: Settings, cc: u8) -> Result<(), Check>
 fn form_judged(body: &[u8], kind: Kind) -> Result<Order, Check>
     ensures { result ≡ judged_by (form_tests kind body.now) (form_order body.now) }
 {
-    let (opcode, target) = form(body)?;
+    let (opcode, target) = form_in(body)?;
     length_judged(body.len(), kind, opcode, target)?;
     program_judged(target)?;
     match opcode {
         Opcode::Request => Ok(Order::Send(target)),
         Opcode::Dump => {
+            version_judged(body, target)?;
             data_judged(body, target)?;
             Ok(Order::Store(target))
         }
@@ -102,20 +103,20 @@ fn form_judged(body: &[u8], kind: Kind) -> Result<Order, Check>
 }
 
 // The opcode, and what is named. A body that ends before its program is too short: its length is asked for first.
-fn form(body: &[u8]) -> Result<(Opcode, Target), Check>
+fn form_in(body: &[u8]) -> Result<(Opcode, Target), Check>
     ensures { result ≡ form_in body.now }
 {
     match body {
         [_, _, _, _, _, opcode, typed, rest @ ..] => {
             let opcode = Opcode::try_from(*opcode)?;
-            let target = target(*typed, rest.first().copied().unwrap_or(0))?;
+            let target = target_in(*typed, rest.first().copied().unwrap_or(0))?;
             Ok((opcode, target))
         }
         _ => Err(Check::OpcodeAndType),
     }
 }
 
-fn target(typed: u8, program: u8) -> Result<Target, Check>
+fn target_in(typed: u8, program: u8) -> Result<Target, Check>
     ensures { result ≡ target_in typed program }
 {
     match typed {
@@ -138,7 +139,7 @@ pub fn type_for(target: Target) -> u8
 }
 
 fn length_judged(count: usize, kind: Kind, opcode: Opcode, target: Target) -> Result<(), Check>
-    ensures { result ≡ passes (length_test kind (opcode_byte opcode) (type_for target) count) }
+    ensures { result ≡ behind (length_test kind (opcode_byte opcode) (type_for target) count) tt }
 {
     let long = body_length(kind, true, opcode, target);
     let shortest = body_length(kind, !kind.has_spare(), opcode, target);
@@ -177,7 +178,7 @@ fn sent_count(kind: Kind, long: bool, target: Target) -> usize
 }
 
 fn program_judged(target: Target) -> Result<(), Check>
-    ensures { result ≡ passes (program_test target) }
+    ensures { result ≡ behind (program_test target) tt }
 {
     match target {
         Target::One(program) if LAST < program => Err(Check::Program(LAST)),
@@ -185,15 +186,23 @@ fn program_judged(target: Target) -> Result<(), Check>
     }
 }
 
-// A dump's version and data.
+fn version_judged(body: &[u8], target: Target) -> Result<(), Check>
+    requires { version_place (type_for target) < length body.now }
+    ensures { result ≡ behind (version_test (type_for target) body.now) tt }
+{
+    if body[version_place(type_for(target))] == VERSION {
+        Ok(())
+    } else {
+        Err(Check::Version(VERSION))
+    }
+}
+
 fn data_judged(body: &[u8], target: Target) -> Result<(), Check>
     requires { version_place (type_for target) < length body.now }
-    ensures { result ≡ passes (data_tests (type_for target) body.now) }
+    ensures { result ≡ behind (halves_test (type_for target) body.now) tt }
 {
-    let version = version_place(type_for(target));
-    if body[version] != VERSION {
-        Err(Check::Version(VERSION))
-    } else if halves::all_at_most(&body[version + 1..], HALF) {
+    let place = version_place(type_for(target)) + 1;
+    if halves::all_at_most(&body[place..], HALF) {
         Ok(())
     } else {
         Err(Check::HalfBytes(HALF))

@@ -1,15 +1,14 @@
 // SysEx: what a message's body asks for, and the numbers of orders and answers. A body is F0 and the bytes after it,
 // without F7, as it stands in a receive buffer; nothing is assumed of its bytes.
-#![tactic(auto)]
+#![tactic(auto, unfolding(crate::specs::Forms::body_length, crate::specs::Forms::is_identity, crate::specs::Forms::is_our_channel, crate::specs::Judging::has_form, crate::specs::Judging::has_program, crate::specs::Judging::further_tests, crate::specs::Judging::order_of, crate::specs::Judging::body_order, crate::specs::Judging::judge_of), using(crate::proofs::Lengths::bounds, ground::proofs::Tests::tests))]
 
 mod judging;
 mod numbers;
 
 use ground::Refusal;
-use programs::Target;
-
 pub use judging::{DUMP, VERSION, judge, longest, type_for, version_place};
 pub use numbers::{answer_length, answer_number, check_number, order_number};
+use programs::Target;
 
 // As they come from C: numbers, of which any may be any byte.
 #[derive(Clone, Copy, Debug, PartialEq, Eq)]
