@@ -1,6 +1,6 @@
 // The programs and the players' edit buffers in memory: how many there are, and where they stand. All lengths of the box
 // derive from these and from the kind.
-#![tactic(auto, unfolding(crate::specs::Memory::player_numbered, crate::specs::Memory::is_player, crate::specs::Memory::player_of, crate::specs::Memory::edit_slot))]
+#![tactic(auto, unfolding(crate::specs::Memory::player_from, crate::specs::Memory::is_player, crate::specs::Memory::player_of, crate::specs::Memory::edit_slot))]
 
 ghost use Rattle.std.specs.Prelude.{◌≡◌};
 ghost use Rattle.programs.specs.Memory.{is_player, player_of, edit_slot, edit_place, memory_size};
@@ -41,11 +41,11 @@ pub fn player_of(number: u32) -> Player
 // The player of a number, or its refusal.
 impl TryFrom<u32> for Player {
     ghost use Rattle.std.specs.Prelude.{◌≡◌};
-    ghost use Rattle.programs.specs.Memory.{player_numbered};
+    ghost use Rattle.programs.specs.Memory.{player_from};
 
     type Error = Refusal;
 
-    ghost try_from_gives = { λ number player. player ≡ player_numbered number };
+    ghost try_from_gives = { λ number player. player ≡ player_from number };
 
     fn try_from(number: u32) -> Result<Player, Refusal> {
         if is_player(number) {
