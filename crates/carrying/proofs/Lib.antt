@@ -1,6 +1,3 @@
-pub mod Writing
 pub mod Parts
 pub mod Turns
-pub mod Understands
-pub mod Numbered
-pub mod OneResult
+pub mod Writing
