@@ -67,7 +67,7 @@ module _ (rules : Rules) (start : Socket → Framer) (s : Socket) where
     pub channel_answers : (calls : CallsOf rules) (held : rules.Held) →
         (let o = rules.carry held (FromSocket s (Channel status first second)) in
         saids_along rules start held before (Byte s status ∷ Byte s first ∷ Byte s second ∷ calls)
-        ≡ said (rules.plain 0) [] ∷ said (rules.plain 0) [] ∷ said_of o ∷ saids_along rules start o.held after calls)
+        ≡ said rules.nothing [] ∷ said rules.nothing [] ∷ said_of o ∷ saids_along rules start o.held after calls)
     channel_answers calls held =
         (λ i.
         let a = happening_does rules held s (opened i).what in
@@ -99,7 +99,7 @@ module _ (rules : Rules) (start : Socket → Framer) (s : Socket) where
         let what : (hears rules.limit (At before) b).what ≡ Nothing = rw (e, a) in (
           ap (λ (h : Happening). finishing s h ++ finished_by rules start (before ++ (Byte s b ∷ [])) (feed s (rest ++ (0xF7 ∷ [])))) what ∙ n.0,
           ap (λ (h : Happening). let o = happening_does rules held s h in said_of o ∷ saids_along rules start o.held (before ++ (Byte s b ∷ [])) (feed s (rest ++ (0xF7 ∷ [])))) what
-              ∙ ap (λ (l : SaidsOf rules). said (rules.plain 0) [] ∷ l) n.1,
+              ∙ ap (λ (l : SaidsOf rules). said rules.nothing [] ∷ l) n.1,
         )
 
 module _ (rules : Rules) (w v : WorldOf rules) (s : Socket) (rest : List ℕ) (saids : SaidsOf rules) where
@@ -110,4 +110,4 @@ module _ (rules : Rules) (w v : WorldOf rules) (s : Socket) (rest : List ℕ) (s
   framed_fed law new low history =
       let d = demand3 rules w v (feed s (0xF0 ∷ (rest ++ (0xF7 ∷ [])))) saids law new history in
       let n = rest_fed rules (λ t. Idle) s w.held (Byte s 0xF0 ∷ []) (0xF0 ∷ []) rest (moved rules (λ t. Idle) s [] 0xF0) low in
-      (d.held ∙ ap (λ (fs : FinishesOf rules). held_after rules w.held fs) (d.order ∙ n.0), d.each ∙ ap (λ (l : SaidsOf rules). said (rules.plain 0) [] ∷ l) n.1)
+      (d.held ∙ ap (λ (fs : FinishesOf rules). held_after rules w.held fs) (d.order ∙ n.0), d.each ∙ ap (λ (l : SaidsOf rules). said rules.nothing [] ∷ l) n.1)

@@ -31,7 +31,7 @@ pub record Ready (rules : Rules) (reply : List ℕ) (Able : rules.Held → Type 
       → AllHold (rules.tests (socket_number s) (lent r held receive reply))
   pub taken_direct : (x : rules.Given) (out : List ℕ) (held : rules.Held) → Able held → Fair x out → AllHold (rules.tests_direct x held out)
   -- and no number of what is taken is one of a call turned away
-  pub quiet : (turned_away (rules.number (rules.plain 0)) ≡ false) × (turned_away (rules.number (rules.plain 4)) ≡ false)
+  pub quiet : (turned_away (rules.number rules.nothing) ≡ false) × (turned_away (rules.number rules.cut) ≡ false)
   pub answered : (held : rules.Held) (s : Socket) (m : Message) → Able held → turned_away (rules.number (rules.carry held (FromSocket s m)).answer) ≡ false
   pub answered_direct : (held : rules.Held) (x : rules.Given) → Able held → turned_away (rules.number (direct_does rules held x).answer) ≡ false
 

@@ -2,6 +2,7 @@
 -- Demand 3 leaves open what a message does: it holds whatever the rules are.
 use Rattle.std.specs.Prelude.{ℕ, zero, ◌<◌, ◌≡◌, Bool, true, cond, ◌&&◌, List, [], ◌∷◌, leb, eqb, length}
 use Rattle.ground.specs.Tests.{Test, AllHold}
+use Rattle.ground.specs.declared.Refusal.{Refusal}
 use Rattle.ground.specs.Calls.{Outcome, outcome, Left}
 use Rattle.framing.specs.declared.Receiver.{Receiver}
 use Rattle.sockets.specs.Framer.{Message, Happening, Nothing, Cut, Finished, Framer}
@@ -49,13 +50,15 @@ pub record Rules : Type 1 where
   pub count : Code → ℕ
   -- how much a direct call that answers so has written
   pub extent : Given → Code → ℕ
-  -- a number and nothing else: 0, 4, 30 to 34
-  pub plain : ℕ → Code
+  -- what is answered with no reply: 0 "byte taken, nothing finished", 4 "SysEx cut", and why a call is turned away
+  pub nothing : Code
+  pub cut : Code
+  pub refused : Refusal → Code
   -- the most bytes of a SysEx that are stored
   pub limit : ℕ
   -- "A call tests 30, 31, 32 in that order": the tests of a byte call, and of a direct one
-  pub tests : ℕ → Lent Held → List (Test ℕ)
-  pub tests_direct : Given → Held → List ℕ → List (Test ℕ)
+  pub tests : ℕ → Lent Held → List (Test Refusal)
+  pub tests_direct : Given → Held → List ℕ → List (Test Refusal)
   -- the messages that a direct call finishes
   pub hands : Given → List Delivered
   -- what a finished message does
@@ -105,7 +108,7 @@ module _ (rules : Rules) where
   -- 0 "byte taken, nothing finished", said to each of these bytes
   abbrev pub taken : List ℕ → SaidsOf rules
   taken [] = []
-  taken (b ∷ bytes) = said (rules.plain 0) [] ∷ taken bytes
+  taken (b ∷ bytes) = said rules.nothing [] ∷ taken bytes
 
   -- "carrying out the finished messages whole, one at a time": what is held after them, and what each answered
   abbrev pub held_after : rules.Held → FinishesOf rules → rules.Held
@@ -118,8 +121,8 @@ module _ (rules : Rules) where
 
   -- what a happening on a socket does: 0, 4, or what the finished message does
   abbrev pub happening_does : rules.Held → Socket → Happening → OutcomeOf rules
-  happening_does held s Nothing = outcome (rules.plain 0) held []
-  happening_does held s Cut = outcome (rules.plain 4) held []
+  happening_does held s Nothing = outcome rules.nothing held []
+  happening_does held s Cut = outcome rules.cut held []
   happening_does held s (Finished m) = rules.carry held (FromSocket s m)
 
   -- what a direct call does: it carries out its messages in order
@@ -130,9 +133,9 @@ module _ (rules : Rules) where
       outcome a.answer (held_after held fs) a.sent
 
 -- each test has a number by which a call is turned away
-abbrev pub Away : (rules : Rules) → List (Test ℕ) → Type 0
+abbrev pub Away : (rules : Rules) → List (Test Refusal) → Type 0
 Away rules [] = Unit {0}
-Away rules (t ∷ ts) = (turned_away (rules.number (rules.plain t.name)) ≡ true) × Away rules ts
+Away rules (t ∷ ts) = (turned_away (rules.number (rules.refused t.name)) ≡ true) × Away rules ts
 
 -- what demand 3 asks of the rules
 pub record Lawful (rules : Rules) : Type 0 where
@@ -147,8 +150,8 @@ pub record Lawful (rules : Rules) : Type 0 where
   -- and a message leaves enough
   pub kept : (held : rules.Held) (f : Finish rules.Delivered) → rules.Good held → rules.Good (rules.carry held f).held
   -- where nothing is finished, nothing is sent
-  pub quiet : (rules.number (rules.plain 0) ≡ 0) × (rules.count (rules.plain 0) ≡ 0)
-  pub cut : (rules.number (rules.plain 4) ≡ 4) × (rules.count (rules.plain 4) ≡ 0)
+  pub quiet : (rules.number rules.nothing ≡ 0) × (rules.count rules.nothing ≡ 0)
+  pub cut : (rules.number rules.cut ≡ 4) × (rules.count rules.cut ≡ 0)
   -- the length that is told is that of what was written
   pub told : (held : rules.Held) (s : Socket) (m : Message) → rules.Good held
       → rules.count (rules.carry held (FromSocket s m)).answer ≡ length (rules.carry held (FromSocket s m)).sent
