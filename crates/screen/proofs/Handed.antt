@@ -9,6 +9,7 @@ use native.Mathlib.Nat.{zero-add, mul-le-mul_right}
 use lib.Dec.{eqb, leb}
 use lib.ListN.{length, drop, length-drop}
 use lib.Seq.{length-take-le}
+use borrow.Author.Rules.{rules}
 use borrow.Author.Tests.{eq-eqb, ne_eqb, leb-true}
 use Rattle.std.specs.Prelude.{Result, Ok, Err}
 use Rattle.ground.specs.declared.Refusal.{Refusal}
@@ -50,7 +51,11 @@ module _ (kind_number program own player : ℕ) (programs buffer : Slice) where
   own_inside : AllHold tests → size_of kind ≤ length buffer.now
   own_inside all = leb-true (size_of kind) (length buffer.now) (search all)
 
-  -- a property of what is handed over, where no test fails and where one does: no refusal has the number 0
+  -- no refusal has the number 0
+  never_0 : {refusal : Refusal} → FirstToFail tests refusal → refusal_number refusal ≡ 0 → ⊥
+  never_0 f = first-named (λ (r : Refusal). refusal_number r ≡ 0 → ⊥) f (search rules)
+
+  -- a property of what is handed over, where no test fails and where one does
   screen_cases : (P : Shown → Type 0)
       → (AllHold tests → P (showing 0 asked_for))
       → ((number : ℕ) → (number ≡ 0 → ⊥) → P (showing number (lent_part programs 0 0)))
@@ -58,8 +63,7 @@ module _ (kind_number program own player : ℕ) (programs buffer : Slice) where
   unfolding screen_of
   screen_cases P passed failed =
       tested_cases (λ (r : Result Part Refusal). P (in_numbers programs r)) tests Err (Ok asked_for) passed
-      (λ refusal f. first-named (λ (r : Refusal). P (showing (refusal_number r) (lent_part programs 0 0))) f
-      (λ _. failed 32 (λ e. omega arith), λ _. (λ _. failed 30 (λ e. omega arith), λ _. (λ _. failed 30 (λ e. omega arith), λ _. (λ _. failed 31 (λ e. omega arith), λ _. (λ _. failed 14 (λ e. omega arith), λ _. tt))))))
+      (λ refusal f. failed (refusal_number refusal) (never_0 f))
 
   -- A refusal is told exactly where its test is the first that fails.
   pub screen-order : (refusal : Refusal) → (part_for kind_number program own player programs buffer ≡ Err refusal) ↔ FirstToFail tests refusal

@@ -1,5 +1,5 @@
 // What the screen is handed: the bytes of a shared program, or of the player's own buffer.
-#![tactic(auto, unfolding(crate::specs::Screen::screen_of, kinds::specs::Kinds::kind_numbered, programs::specs::Memory::player_numbered))]
+#![tactic(auto, unfolding(crate::specs::Screen::screen_of, kinds::specs::Kinds::kind_from, programs::specs::Memory::player_from))]
 
 ghost use Rattle.std.specs.Prelude.{◌≡◌};
 ghost use Rattle.screen.specs.Parts.{shown, returned};
