@@ -1,16 +1,21 @@
 -- Where what is named lies in memory, among the marks and in the reply buffer.
-use Prim.Native.Nat.{ℕ, ◌+◌, ◌-◌, ◌*◌, ◌≤◌}
-use native.Mathlib.Nat.{mul-le-mul_right}
+use Prim.Native.Nat.{ℕ, ◌+◌, ◌-◌, ◌*◌, ◌/◌, ◌≤◌}
+use mathlib.Core.List.{List}
+use mathlib.Core.Path.{◌≡◌, sym, ap, ◌∙◌}
+use native.Mathlib.Nat.{add-sub_cancel_left, mul-div_cancel, mul-le-mul_right}
 use native.Mathlib.Omega.{arith}
+use lib.ListN.{length, take, drop, length-drop}
+use lib.Seq.{length-take-le}
 use Rattle.kinds.specs.declared.Kind.{Kind}
 use Rattle.kinds.specs.declared.Kind.TheVariants.{Pod, BassPod, PodPro}
 use Rattle.kinds.specs.Kinds.{size_of, largest}
 use Rattle.kinds.proofs.AnyKind.{size-bounds}
 use Rattle.programs.specs.declared.Player.{Player}
-use Rattle.programs.specs.Memory.{program_count, last_program, memory_size, mark_count}
+use Rattle.programs.specs.Memory.{program_count, last_program, memory_size, mark_count, part_of, put_part}
 use Rattle.programs.specs.declared.Target.{Target}
 use Rattle.programs.specs.declared.Target.TheVariants.{One, Edit, All}
 use Rattle.programs.specs.Held.{place_for, count_for, slot_for, slots_for}
+use Rattle.programs.proofs.Slots.{count_slots}
 use Rattle.programs.proofs.Players.{slot_inside, edit-inside}
 use Rattle.sysex.specs.Forms.{type_for, data_place, longest}
 use Rattle.sysex.specs.Formats.{There}
@@ -38,6 +43,9 @@ dump_room kind (One p) = omega (arith, size-bounds kind)
 dump_room kind Edit = omega (arith, size-bounds kind)
 dump_room kind All = omega arith
 
+pub longest_small : (kind : Kind) → longest kind + 1 ≤ 65536
+longest_small kind = omega (arith, size-bounds kind)
+
 -- a program has more bytes than its spare one
 pub size_more : (kind : Kind) → 2 ≤ size_of kind
 unfolding size_of
@@ -45,4 +53,27 @@ size_more Pod = omega arith
 size_more BassPod = omega arith
 size_more PodPro = omega arith
 
-pub ruleset inside = (place_inside, slots_inside, memory_small, dump_room, size-bounds, size_more)
+-- the part of memory that is lent of what is named
+module _ (kind : Kind) (player : Player) (t : Target) (memory : List ℕ) (place count : ℕ) (p : place ≡ place_for kind player t) (q : count ≡ count_for kind t)
+    (inside : place_for kind player t + count_for kind t ≤ length memory) where
+  abbrev pub lent : List ℕ
+  lent = take (place + count - place) (drop place memory)
+
+  pub lent_is : lent ≡ part_of (place_for kind player t) (count_for kind t) memory
+  lent_is = ap (λ (n : ℕ). take n (drop place memory)) (add-sub_cancel_left place count) ∙ (λ i. take (q i) (drop (p i) memory))
+
+  pub lent_count : length lent ≡ count_for kind t
+  lent_count = ap length lent_is ∙ length-take-le (count_for kind t) (drop (place_for kind player t) memory) (simp length-drop (omega arith))
+
+  pub lent_slots : length lent / size_of kind ≡ slots_for t
+  lent_slots = ap (λ (n : ℕ). n / size_of kind) (lent_count ∙ sym (count_slots kind t)) ∙ mul-div_cancel (slots_for t) (omega (arith, size-bounds kind))
+
+  -- whole programs
+  pub lent_whole : length lent ≡ length lent / size_of kind * size_of kind
+  lent_whole = lent_count ∙ sym (ap (λ (n : ℕ). n * size_of kind) lent_slots ∙ count_slots kind t)
+
+  -- it comes back in its place
+  pub lent_put : (x y : List ℕ) → x ≡ y → put_part place (place + count - place) x memory ≡ put_part (place_for kind player t) (count_for kind t) y memory
+  lent_put x y e = (λ i. put_part place (add-sub_cancel_left place count i) (e i) memory) ∙ (λ i. put_part (p i) (q i) y memory)
+
+pub ruleset inside = (place_inside, slots_inside, memory_small, dump_room, longest_small, size-bounds, size_more)

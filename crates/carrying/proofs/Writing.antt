@@ -3,10 +3,9 @@ use Prim.Native.Nat.{ℕ, ◌+◌, ◌-◌, ◌*◌, ◌/◌, ◌≤◌}
 use mathlib.Core.Bool.{Bool, true, false, cond}
 use mathlib.Core.List.{List, [], ◌∷◌, ◌++◌, append_assoc}
 use mathlib.Core.Path.{◌≡◌, refl, sym, ap, ◌∙◌}
-use native.Mathlib.Nat.{add-sub_cancel_left, mul-div_cancel}
 use native.Mathlib.Omega.{arith}
-use lib.ListN.{length, take, drop, get_or, set, length-append, length-drop}
-use lib.Seq.{length-take-le, take_at, drop_at, drop-drop}
+use lib.ListN.{length, take, drop, get_or, set, length-append}
+use lib.Seq.{take_at, drop_at, drop-drop}
 use Rattle.ground.specs.Lists.{written}
 use Rattle.halves.specs.HalfBytes.{split}
 use Rattle.halves.proofs.Laws.{length-split}
@@ -16,14 +15,16 @@ use Rattle.kinds.proofs.AnyKind.{identity-bytes, size-bounds}
 use Rattle.programs.specs.declared.Player.{Player}
 use Rattle.programs.specs.declared.Target.{Target}
 use Rattle.programs.specs.declared.Target.TheVariants.{One, Edit, All}
-use Rattle.programs.specs.Memory.{put_part}
+use Rattle.programs.specs.Memory.{memory_size, put_part}
 use Rattle.programs.specs.Spares.{without_spares}
 use Rattle.programs.specs.Held.{Held, place_for, count_for, slots_for, bytes_in, goes_long, bytes_out}
 use Rattle.programs.proofs.Parts.{put-set}
-use Rattle.programs.proofs.Slots.{count_slots}
+use Rattle.programs.proofs.Slots.{out_most}
 use Rattle.programs.proofs.Spares.{without_length}
 use Rattle.sysex.specs.declared.Settings.{Settings}
-use Rattle.sysex.specs.Forms.{type_for, pp_for, data_place, dump_start, dump_body, identity_reply, ended}
+use Rattle.sysex.specs.Forms.{type_for, pp_for, data_place, longest, dump_start, dump_body, identity_reply, ended}
+use Rattle.sysex.specs.Formats.{There}
+use Rattle.carrying.proofs.Parts.{place_inside, dump_room, lent, lent_is, lent_slots, lent_whole}
 
 -- a part that is written behind what is written
 pub written_more : (n k : ℕ) (bytes more reply : List ℕ) → length bytes ≡ n → length more ≡ k
@@ -54,27 +55,31 @@ module _ (kind : Kind) (t : Target) (out : List ℕ) where
       put-set end 0xF7 r₂ (omega arith) ∙ (rw s₂ (written_more end 1 (dump_body kind t out) (0xF7 ∷ []) r₀ (omega (arith, body_length)) refl))
 
 -- what goes out, of the part of memory that is lent
-module _ (kind : Kind) (player : Player) (t : Target) (held : Held) (inside : place_for kind player t + count_for kind t ≤ length held.memory) where
-  abbrev pub lent : List ℕ
-  lent = take (place_for kind player t + count_for kind t - place_for kind player t) (drop (place_for kind player t) held.memory)
+module _ (kind : Kind) (player : Player) (t : Target) (held : Held) (place count : ℕ) (p : place ≡ place_for kind player t) (q : count ≡ count_for kind t)
+    (inside : place_for kind player t + count_for kind t ≤ length held.memory) where
+  abbrev part : List ℕ
+  part = lent kind player t held.memory place count p q inside
 
-  lent_is : lent ≡ bytes_in kind player t held
-  lent_is = ap (λ (n : ℕ). take n (drop (place_for kind player t) held.memory)) (add-sub_cancel_left (place_for kind player t) (count_for kind t))
+  abbrev out : Bool → List ℕ
+  out long = cond long (bytes_in kind player t held) (without_spares (size_of kind) (slots_for t) (bytes_in kind player t held))
 
-  pub lent_count : length lent ≡ count_for kind t
-  lent_count = ap length lent_is ∙ length-take-le (count_for kind t) (drop (place_for kind player t) held.memory) (simp length-drop (omega arith))
+  pub out_long : goes_long kind player t held ≡ true → part ≡ bytes_out kind player t held
+  out_long long = lent_is kind player t held.memory place count p q inside ∙ sym (ap out long)
 
-  pub lent_slots : length lent / size_of kind ≡ slots_for t
-  lent_slots = ap (λ (n : ℕ). n / size_of kind) (lent_count ∙ sym (count_slots kind t)) ∙ mul-div_cancel (slots_for t) (omega (arith, size-bounds kind))
+  pub out_short : goes_long kind player t held ≡ false → without_spares (size_of kind) (length part / size_of kind) part ≡ bytes_out kind player t held
+  out_short short =
+      (λ i. without_spares (size_of kind) (lent_slots kind player t held.memory place count p q inside i) (lent_is kind player t held.memory place count p q inside i)) ∙ sym (ap out short)
 
-  pub out_long : goes_long kind player t held ≡ true → lent ≡ bytes_out kind player t held
-  out_long long = rw long lent_is
+  pub short_count : goes_long kind player t held ≡ false → length part / size_of kind * (size_of kind - 1) ≡ length (bytes_out kind player t held)
+  short_count short =
+      sym (without_length (size_of kind) (size-bounds kind).0 (length part / size_of kind) part (lent_whole kind player t held.memory place count p q inside)) ∙ ap length (out_short short)
 
-  pub out_short : goes_long kind player t held ≡ false → without_spares (size_of kind) (length lent / size_of kind) lent ≡ bytes_out kind player t held
-  out_short short = rw (short, lent_slots, lent_is)
-
-  pub short_count : length (without_spares (size_of kind) (length lent / size_of kind) lent) ≡ length lent / size_of kind * (size_of kind - 1)
-  short_count = without_length (size_of kind) (size-bounds kind).0 (length lent / size_of kind) lent (lent_count ∙ sym (rw lent_slots (count_slots kind t)))
+-- the dump that goes out has room in the longest message
+pub dump_fits : (kind : Kind) (player : Player) (t : Target) (held : Held) → There t → memory_size kind ≤ length held.memory
+    → data_place (type_for t) + 2 * length (bytes_out kind player t held) + 1 ≤ longest kind
+dump_fits kind player t held there whole =
+    let most = out_most kind player t held (omega (arith, place_inside kind player t there)) in
+    omega (arith, dump_room kind t)
 
 -- the identity reply, with the four bytes that the kind tells one by one
 pub identified : (kind : Kind) (settings : Settings) (channel : ℕ) (told : List ℕ) → told ≡ identity_of kind

@@ -4,7 +4,7 @@ ghost use Rattle.halves.specs.HalfBytes.{join, all_halves};
 ghost use Rattle.kinds.specs.Kinds.{size_of};
 ghost use Rattle.programs.specs.Memory.{put_part};
 ghost use Rattle.programs.specs.Spares.{with_spares};
-ghost use Rattle.programs.specs.Held.{held_of, place_for, count_for, marked, received, store_in};
+ghost use Rattle.programs.specs.Held.{held_of, marked, received, put_in, store_in};
 ghost use Rattle.programs.specs.Lending.{content, SameLent};
 ghost use Rattle.sysex.specs.Forms.{type_for, data_place, is_long};
 ghost use Rattle.sysex.specs.Formats.{There, IsDump};
@@ -18,17 +18,28 @@ pub(crate) fn store(target: Target, body: &[u8], player: Player, held: &mut Held
     ensures same { SameLent held.old held.new }
     ensures held_after { content held.new ≡ store_in held.old.kind player target (is_long held.old.kind target body.now) (join (drop (data_place (type_for target)) body.now)) (content held.old) }
 {
+    let long = receive(target, body, player, held);
+    mark(target, player, long, held);
+}
+
+// The bytes of a dump's data, in the place of what it names. Returns whether the dump is long.
+fn receive(target: Target, body: &[u8], player: Player, held: &mut Held) -> bool
+    requires { IsDump held.old.kind target (is_long held.old.kind target body.now) (join (drop (data_place (type_for target)) body.now)) body.now }
+    ensures same { SameLent held.old held.new }
+    ensures value { result ≡ is_long held.old.kind target body.now }
+    ensures held_after { content held.new ≡ put_in held.old.kind player target (received held.old.kind target result (join (drop (data_place (type_for target)) body.now))) (content held.old) }
+{
     let kind = held.kind;
     let place = target.place(kind, player);
     let count = target.count(kind);
     let halves = &body[sysex::version_place(sysex::type_for(target)) + 1..];
-    let long = halves.len() == 2 * count;
-    if long {
+    if halves.len() == 2 * count {
         halves::join_any(halves, &mut held.memory[place..place + count]).unwrap();
+        true
     } else {
         join_short(halves, kind, &mut held.memory[place..place + count]);
+        false
     }
-    mark(target, player, long, held);
 }
 
 // The bytes of half bytes, with a 0 behind those of each program.
