@@ -25,7 +25,8 @@ pub fn first_bad(halves: &[u8], programs: usize, per: usize) -> Option<Bad>
     searched(halves, programs, per)
 }
 
-// Program after program and half byte after half byte, as far as they go.
+// Program after program and half byte after half byte, as far as they go: nested loops left by label at the first bad one,
+// the form that document 01 names.
 #[tactic(auto, using(crate::proofs::Searching::one_more, crate::proofs::Searching::none_to_the_end, crate::proofs::Searching::none_looked))]
 fn searched(halves: &[u8], programs: usize, per: usize) -> Option<Bad>
     ensures { result ≡ first_bad programs per halves.now }
