@@ -6,6 +6,8 @@ use native.Mathlib.Nat.{add-sub_cancel_left, mul-div_cancel, mul-le-mul_right}
 use native.Mathlib.Omega.{arith}
 use lib.ListN.{length, take, drop, length-drop}
 use lib.Seq.{length-take-le}
+use borrow.Author.Tests.{le-leb}
+use Rattle.ground.specs.Calls.{leaves}
 use Rattle.kinds.specs.declared.Kind.{Kind}
 use Rattle.kinds.specs.declared.Kind.TheVariants.{Pod, BassPod, PodPro}
 use Rattle.kinds.specs.Kinds.{size_of, largest}
@@ -14,11 +16,13 @@ use Rattle.programs.specs.declared.Player.{Player}
 use Rattle.programs.specs.Memory.{program_count, last_program, memory_size, mark_count, part_of, put_part}
 use Rattle.programs.specs.declared.Target.{Target}
 use Rattle.programs.specs.declared.Target.TheVariants.{One, Edit, All}
-use Rattle.programs.specs.Held.{place_for, count_for, slot_for, slots_for}
+use Rattle.programs.specs.Held.{Held, place_for, count_for, slot_for, slots_for}
 use Rattle.programs.proofs.Slots.{count_slots}
 use Rattle.programs.proofs.Players.{slot_inside, edit-inside}
 use Rattle.sysex.specs.Forms.{type_for, data_place, longest}
 use Rattle.sysex.specs.Formats.{There}
+use Rattle.sysex.specs.declared.Settings.{Settings}
+use Rattle.carrying.specs.Carrying.{body_does, carry_of}
 
 -- a program's part lies among the programs
 pub program-inside : (size p : ℕ) → p ≤ last_program → p * size + size ≤ program_count * size
@@ -75,5 +79,13 @@ module _ (kind : Kind) (player : Player) (t : Target) (memory : List ℕ) (place
   -- it comes back in its place
   pub lent_put : (x y : List ℕ) → x ≡ y → put_part place (place + count - place) x memory ≡ put_part (place_for kind player t) (count_for kind t) y memory
   lent_put x y e = (λ i. put_part place (add-sub_cancel_left place count i) (e i) memory) ∙ (λ i. put_part (p i) (q i) y memory)
+
+-- what a call does where the buffers that are lent are long enough
+pub carry_long : (kind : Kind) (settings : Settings) (player : Player) (body : List ℕ) (held : Held) (reply : List ℕ) → memory_size kind ≤ length held.memory → mark_count ≤ length held.marks
+    → longest kind ≤ length reply
+    → carry_of kind settings player body held reply ≡ leaves (body_does kind settings player body held) reply
+unfolding carry_of
+carry_long kind settings player body held reply m k r =
+    rw (le-leb (memory_size kind) (length held.memory) m, le-leb mark_count (length held.marks) k, le-leb (longest kind) (length reply) r)
 
 pub ruleset inside = (place_inside, slots_inside, memory_small, dump_room, longest_small, size-bounds, size_more)
