@@ -45,20 +45,10 @@ pub(crate) fn are_marks(marks: &[u8]) -> bool
 pub(crate) fn are_valid(settings: Settings) -> bool
     ensures { result ≡ is_valid settings }
 {
-    if 15 < settings.channel {
-        return false;
-    }
-    if 1 < settings.omni {
-        return false;
-    }
-    if 0x7F < settings.revision0 {
-        return false;
-    }
-    if 0x7F < settings.revision1 {
-        return false;
-    }
-    if 0x7F < settings.revision2 {
-        return false;
-    }
-    settings.revision3 <= 0x7F
+    settings.channel <= 15
+        && settings.omni <= 1
+        && settings.revision0 <= 0x7F
+        && settings.revision1 <= 0x7F
+        && settings.revision2 <= 0x7F
+        && settings.revision3 <= 0x7F
 }
