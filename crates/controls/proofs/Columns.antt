@@ -13,7 +13,7 @@ use Rattle.ground.proofs.Computed.{column-at, every-at}
 use Rattle.kinds.specs.declared.Kind.{Kind}
 use Rattle.kinds.specs.declared.Kind.TheVariants.{Pod}
 use Rattle.controls.specs.declared.Row.{Row}
-use Rattle.controls.specs.declared.Reading.TheVariants.{Value, Refused}
+use Rattle.std.specs.Prelude.{Ok, Err}
 use Rattle.controls.specs.Formulas.{v/64, v/2, as_received, m_upper, m_lower, v/22, v×50, v×256/42, v×25, number_by, number_for, next_for}
 use Rattle.controls.specs.Table.{table, row_of}
 use Rattle.controls.specs.Sheet.{columns, on_sheet, sheet_rule}
@@ -103,7 +103,7 @@ on_column r v sane undivided not_upper not_lower =
 abbrev scales : Row → Bool
 scales r = not (eqb r.width 0) && (not (eqb r.formula m_upper) && (not (eqb r.formula m_lower) && leb 127 r.highest))
 
-pub scaled_in : (c v : ℕ) → c ≤ 5 → v ≤ 127 → scale_of Pod (get_or columns c 0) v ≡ Value (on_sheet c v)
+pub scaled_in : (c v : ℕ) → c ≤ 5 → v ≤ 127 → scale_of Pod (get_or columns c 0) v ≡ Ok (on_sheet c v)
 unfolding scale_of table row_of
 scaled_in c v h l =
     let r = row_of Pod (get_or columns c 0) in
@@ -111,4 +111,4 @@ scaled_in c v h l =
     let not_upper = both (not (eqb r.formula m_upper)) _ listed.1 in
     let not_lower = both (not (eqb r.formula m_lower)) _ not_upper.1 in
     let highest = leb-true 127 r.highest not_lower.1 in
-    tested_passed (scale_tests r v) Refused _ (listed.0, (not_upper.0, (not_lower.0, (le-leb v r.highest (omega arith), tt))))
+    tested_passed (scale_tests r v) Err _ (listed.0, (not_upper.0, (not_lower.0, (le-leb v r.highest (omega arith), tt))))

@@ -13,8 +13,9 @@ use Rattle.kinds.specs.declared.Kind.{Kind}
 use Rattle.kinds.specs.declared.Kind.TheVariants.{Pod}
 use Rattle.kinds.specs.Kinds.{highest_model}
 use Rattle.controls.specs.declared.Row.{Row}
-use Rattle.controls.specs.declared.Reading.{Reading}
-use Rattle.controls.specs.declared.Reading.TheVariants.{Value, Refused}
+use Rattle.std.specs.Prelude.{Result, Ok, Err}
+use Rattle.ground.specs.declared.Refusal.{Refusal}
+use Rattle.ground.specs.declared.Refusal.TheVariants.{NoneGives}
 use Rattle.controls.specs.Formulas.{m_upper, m_lower, number_by, number_for}
 use Rattle.controls.specs.Table.{table, row_of}
 use Rattle.controls.specs.Sheet.{columns, on_sheet}
@@ -100,7 +101,7 @@ pub stride_fits : (left stride at : ℕ) → at + (left + 1) * stride ≤ 128 �
 stride_fits left stride at fits = let all = strides left stride in omega arith
 
 -- What one turn of a pass over strides keeps: the answer of the strides that are left is the answer of the whole.
-module _ (sheet : List ℕ) (c stored left stride at : ℕ) (whole : Reading) (is : IsSheet sheet) (low : c ≤ 5) (some : 1 ≤ stride)
+module _ (sheet : List ℕ) (c stored left stride at : ℕ) (whole : Result ℕ Refusal) (is : IsSheet sheet) (low : c ≤ 5) (some : 1 ≤ stride)
     (fits : at + (left + 1) * stride ≤ 128) (inv : smallest (sheet_row c) stored ((left + 1) * stride) at ≡ whole) where
   -- the test of a stride's last number
   last : (t : Bool) → is_before c (get_or sheet (128 * c + at + stride - 1) 0) stored ≡ t → is_before c (on_sheet c (at + stride - 1)) stored ≡ t
@@ -128,12 +129,12 @@ module _ (sheet : List ℕ) (c stored left stride at : ℕ) (whole : Reading) (i
       rw one at (rw nil at inv)
 
 -- What three passes leave of a search: one value.
-module _ (sheet : List ℕ) (c stored v : ℕ) (near far whole : Reading) (is : IsSheet sheet) (low : c ≤ 5) (h : v + 1 ≤ 128)
+module _ (sheet : List ℕ) (c stored v : ℕ) (near far whole : Result ℕ Refusal) (is : IsSheet sheet) (low : c ≤ 5) (h : v + 1 ≤ 128)
     (third : smallest (sheet_row c) stored 1 v ≡ near) (second : near ≡ far) (first : far ≡ whole) where
-  pub left-shown : get_or sheet (128 * c + v) 0 ≡ stored → Value v ≡ whole
+  pub left-shown : get_or sheet (128 * c + v) 0 ≡ stored → Ok v ≡ whole
   left-shown e = rw (eq-eqb (on_sheet c v) stored (sym (lent sheet c v is low (omega arith)) ∙ e)) at (third ∙ (second ∙ first))
 
-  pub left-refused : (get_or sheet (128 * c + v) 0 ≡ stored → ⊥) → Refused 40 ≡ whole
+  pub left-refused : (get_or sheet (128 * c + v) 0 ≡ stored → ⊥) → Err NoneGives ≡ whole
   left-refused e = rw (ne_eqb (on_sheet c v) stored (λ f. e (lent sheet c v is low (omega arith) ∙ f))) at (third ∙ (second ∙ first))
 
 -- a row whose formula does not divide takes every data byte

@@ -5,8 +5,6 @@ use Rattle.kinds.specs.declared.Kind.{Kind}
 use Rattle.kinds.specs.declared.Kind.TheVariants.{Pod}
 use Rattle.kinds.specs.Kinds.{size_of}
 use Rattle.controls.specs.declared.Row.{Row}
-use Rattle.controls.specs.declared.Change.{Change}
-use Rattle.controls.specs.declared.Change.TheVariants.{Applied, Refused}
 use Rattle.controls.specs.Formulas.{v/64, v/2, as_received, v/22, v×50, v×256/104, v×256/42, v×22+100, v×25}
 use Rattle.controls.specs.Table.{row_as, row_of}
 use Rattle.controls.specs.Sheet.{columns, sheet_rule}
@@ -66,7 +64,3 @@ IsSheet sheet = sheet ≡ column sheet_rule 768
 -- whether a number comes before the stored one in its column's order: 23's falls, the others rise
 unfoldable pub is_before : ℕ → ℕ → ℕ → Bool
 is_before c number stored = cond (eqb c 0) (ltb stored number) (ltb number stored)
-
--- what became of a move, of its number: 3 "controller applied", or the refusal
-abbrev pub change_of : ℕ → Change
-change_of number = cond (eqb number 3) Applied (Refused number)

@@ -4,8 +4,9 @@ ghost use Rattle.controls.specs.Formulas.{m_upper, m_lower, number_for, m_of, ne
 ghost use Rattle.controls.specs.Private.{SaneForSome, divisor_of, column_of};
 ghost use Rattle.controls.specs.Showing.{smallest, seven_bits, shown_of};
 
+use crate::Row;
 use crate::sheet::{first_on_sheet, on_sheet};
-use crate::{Reading, Row};
+use ground::Refusal;
 
 pub(crate) const V_64: u8 = 0;
 
@@ -96,7 +97,7 @@ pub(crate) fn next(row: Row, divisor: u8, v: u16, stored: u32) -> u32
 }
 
 // The value that shows a stored number.
-pub(crate) fn shown(row: Row, divisor: u8, stored: u32) -> Reading
+pub(crate) fn shown(row: Row, divisor: u8, stored: u32) -> Result<u16, Refusal>
     requires { SaneForSome row × (divisor ≡ divisor_of row.formula) }
     ensures { result ≡ shown_of row stored }
 {
@@ -107,20 +108,20 @@ pub(crate) fn shown(row: Row, divisor: u8, stored: u32) -> Reading
 }
 
 // The smallest value of a quotient is the divisor that many times.
-fn multiple(row: Row, divisor: u8, stored: u32) -> Reading
+fn multiple(row: Row, divisor: u8, stored: u32) -> Result<u16, Refusal>
     requires { SaneForSome row × (divisor ≡ divisor_of row.formula) × (1 ≤ divisor) }
     ensures { result ≡ smallest row stored (row.highest + 1) 0 }
 {
     let v = stored as u64 * divisor as u64;
     if v <= row.highest as u64 {
-        return Reading::Value(v as u16);
+        return Ok(v as u16);
     }
-    Reading::Refused(40)
+    Err(Refusal::NoneGives)
 }
 
 // By the formulas of m, or from the sheet. The search of the sheet has two callers: called once, it would be built into
 // this call, and the sheet into the stack of every showing back.
-fn shown_undivided(row: Row, stored: u32) -> Reading
+fn shown_undivided(row: Row, stored: u32) -> Result<u16, Refusal>
     requires { SaneForSome row × (divisor_of row.formula ≡ 0) }
     ensures { result ≡ shown_of row stored }
 {
@@ -138,13 +139,13 @@ fn shown_undivided(row: Row, stored: u32) -> Reading
 }
 
 // Seven bits of m, where the stored number is 6 x m.
-fn seven_bits(stored: u32, m: u32, bits: u32) -> Reading
+fn seven_bits(stored: u32, m: u32, bits: u32) -> Result<u16, Refusal>
     requires m_value { m ≡ m_of stored }
     requires bits_bound { bits ≤ 127 }
     ensures { result ≡ seven_bits stored bits }
 {
     if stored == 6 * m {
-        return Reading::Value(bits as u16);
+        return Ok(bits as u16);
     }
-    Reading::Refused(40)
+    Err(Refusal::NoneGives)
 }

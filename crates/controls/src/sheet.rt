@@ -4,7 +4,7 @@ ghost use Rattle.controls.specs.Sheet.{on_sheet};
 ghost use Rattle.controls.specs.Showing.{smallest};
 ghost use Rattle.controls.specs.Private.{sheet_row, IsSheet, is_before};
 
-use crate::Reading;
+use ground::Refusal;
 
 // The number in a column for v.
 pub(crate) fn on_sheet(column: usize, v: u16) -> u16
@@ -17,7 +17,7 @@ pub(crate) fn on_sheet(column: usize, v: u16) -> u16
 
 // The smallest value with the stored number in a column. The sheet is handed down by reference: it is written to the
 // stack wherever it is read, and so once.
-pub(crate) fn first_on_sheet(column: usize, stored: u32) -> Reading
+pub(crate) fn first_on_sheet(column: usize, stored: u32) -> Result<u16, Refusal>
     requires { column ≤ 5 }
     ensures { result ≡ smallest (sheet_row column) stored 128 0 }
 {
@@ -25,7 +25,7 @@ pub(crate) fn first_on_sheet(column: usize, stored: u32) -> Reading
 }
 
 // Each pass leaves a part of the values in which the smallest is, if it is anywhere: 16 of 128, 4 of these, one.
-fn search(sheet: &[u16; 768], column: usize, stored: u32) -> Reading
+fn search(sheet: &[u16; 768], column: usize, stored: u32) -> Result<u16, Refusal>
     requires { IsSheet sheet.now × (column ≤ 5) }
     ensures { result ≡ smallest (sheet_row column) stored 128 0 }
 {
@@ -33,9 +33,9 @@ fn search(sheet: &[u16; 768], column: usize, stored: u32) -> Reading
     let near = pass(sheet, column, stored, far, 4, 3);
     let v = pass(sheet, column, stored, near, 1, 3);
     if sheet[128 * column + v] as u32 == stored {
-        return Reading::Value(v as u16);
+        return Ok(v as u16);
     }
-    Reading::Refused(40)
+    Err(Refusal::NoneGives)
 }
 
 // Passes over strides of values, as long as the last of a stride comes before the stored number in the column's order,

@@ -16,7 +16,6 @@ use Rattle.controls.specs.Formulas.{next_for}
 use Rattle.controls.specs.Table.{table, row_of}
 use Rattle.controls.specs.Fields.{read_at, put_at, number_in}
 use Rattle.controls.specs.Applying.{Changed, changed, store_row, apply_tests, unchanged, apply_of}
-use Rattle.controls.specs.declared.Change.TheVariants.{Applied}
 use Rattle.controls.specs.Showing.{back_of}
 use Rattle.controls.specs.Meaning.{Outside}
 use Rattle.controls.proofs.Bytes.{narrower, not_first}

@@ -25,7 +25,6 @@ use Rattle.sockets.proofs.Whole.{demand3, from-sound, no_effect}
 use Rattle.sockets.proofs.Calm.{calms}
 use Rattle.sockets.proofs.Live.{Ready, AllFair, live}
 use Rattle.sysex.specs.declared.Settings.{Settings}
-use Rattle.sysex.specs.declared.Answer.{Answer}
 use Rattle.sysex.specs.Forms.{longest}
 use Rattle.sysex.specs.Numbers.{answer_number}
 use Rattle.carrying.specs.Carrying.{Outcome}
@@ -62,7 +61,7 @@ module _ (kind_number : ℕ) (settings : Settings) where
   kept held (FromDirect (FromList s m)) g = omega (arith, tame_length (message_tame (kind_of kind_number) settings (socket_player s) held g m))
 
   -- what the messages of a list answer: a number for each move, and no reply
-  abbrev pub list_saids : ℕ → Held → List Move → List (Said Answer)
+  abbrev pub list_saids : ℕ → Held → List Move → List (Said Answered)
   list_saids player_number held moves = saids_of (box_rules kind_number settings) held (handing (hands_of settings (Moves player_number moves)))
 
   -- what the box holds once the message of one move is carried out

@@ -8,10 +8,10 @@ use lib.Dec.{leb}
 use lib.ListN.{length, take, drop}
 use lib.Seq.{take-nil, drop-nil}
 use borrow.Author.Tests.{le-leb, leb-true, eq-eqb}
+use Rattle.std.specs.Prelude.{⊤, Result, Ok}
 use Rattle.ground.specs.Lists.{all_at_most}
 use Rattle.ground.proofs.Tests.{both, by}
-use Rattle.halves.specs.declared.Moved.{Moved}
-use Rattle.halves.specs.declared.Moved.TheVariants.{Done}
+use Rattle.halves.specs.declared.MoveError.{MoveError}
 use Rattle.halves.specs.HalfBytes.{split, join, join_any, all_halves}
 use Rattle.halves.specs.Moving.{Filled, filled, moved_number, fits, split_into, join_into, join_any_into}
 
@@ -99,19 +99,19 @@ drop-join (suc k) (high ∷ []) = rw (two_more k, drop-nil (suc (2 * k)))
 drop-join (suc k) (high ∷ low ∷ xs) = rw (two_more k) (drop-join k xs)
 
 -- What a caller may count on: all is moved where the lengths fit, and the half bytes are half bytes.
-split_done : (bytes halves : List ℕ) → length halves ≡ 2 * length bytes → split_into bytes halves ≡ filled Done (split bytes)
+split_done : (bytes halves : List ℕ) → length halves ≡ 2 * length bytes → split_into bytes halves ≡ filled (Ok tt) (split bytes)
 unfolding split_into
 split_done bytes halves e = rw (eq-eqb (length halves) (2 * length bytes) e)
 
-join_done : (halves bytes : List ℕ) → length halves ≡ 2 * length bytes → all_halves halves ≡ true → join_into halves bytes ≡ filled Done (join halves)
+join_done : (halves bytes : List ℕ) → length halves ≡ 2 * length bytes → all_halves halves ≡ true → join_into halves bytes ≡ filled (Ok tt) (join halves)
 unfolding join_into
 join_done halves bytes e h = rw (eq-eqb (length halves) (2 * length bytes) e, h)
 
 -- what a call leaves in a buffer that fits
-pub split-leaves : (bytes halves x : List ℕ) (r : Moved) → filled r x ≡ split_into bytes halves → length halves ≡ 2 * length bytes → x ≡ split bytes
+pub split-leaves : (bytes halves x : List ℕ) (r : Result ⊤ MoveError) → filled r x ≡ split_into bytes halves → length halves ≡ 2 * length bytes → x ≡ split bytes
 split-leaves bytes halves x r e h = ap (λ (l : Filled). l.buffer) (e ∙ split_done bytes halves h)
 
-pub join-leaves : (halves bytes x : List ℕ) (r : Moved) → filled r x ≡ join_into halves bytes → length halves ≡ 2 * length bytes → all_halves halves ≡ true
+pub join-leaves : (halves bytes x : List ℕ) (r : Result ⊤ MoveError) → filled r x ≡ join_into halves bytes → length halves ≡ 2 * length bytes → all_halves halves ≡ true
     → x ≡ join halves
 join-leaves halves bytes x r e h a = ap (λ (l : Filled). l.buffer) (e ∙ join_done halves bytes h a)
 
@@ -120,7 +120,7 @@ pub join_any_same : (halves bytes : List ℕ) → all_halves halves ≡ true →
 unfolding join_into join_any_into
 join_any_same halves bytes h = rw (h, join_any_halves halves h)
 
-pub join_any-leaves : (halves bytes x : List ℕ) (r : Moved) → filled r x ≡ join_any_into halves bytes → length halves ≡ 2 * length bytes → all_halves halves ≡ true
+pub join_any-leaves : (halves bytes x : List ℕ) (r : Result ⊤ MoveError) → filled r x ≡ join_any_into halves bytes → length halves ≡ 2 * length bytes → all_halves halves ≡ true
     → x ≡ join halves
 join_any-leaves halves bytes x r e h a = join-leaves halves bytes x r (e ∙ join_any_same halves bytes a) h a
 

@@ -2,11 +2,14 @@
 // derive from these and from the kind.
 #![tactic(auto, unfolding(crate::specs::Memory::player_from, crate::specs::Memory::is_player, crate::specs::Memory::player_of, crate::specs::Memory::edit_slot))]
 
+mod held;
+
 ghost use Rattle.std.specs.Prelude.{◌≡◌};
 ghost use Rattle.programs.specs.Memory.{is_player, player_of, edit_slot, edit_place, memory_size};
 ghost use Rattle.programs.specs.Held.{place_for, count_for, slot_for, slots_for};
 
 use ground::Refusal;
+pub use held::Held;
 use kinds::Kind;
 
 pub const PROGRAMS: usize = 36;
