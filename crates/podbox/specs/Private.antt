@@ -19,9 +19,6 @@ use Rattle.podbox.specs.Whole.{is_framed, body_of}
 use Rattle.podbox.specs.Box.{limit, rules_with}
 
 -- as much is lent as a call asks
-abbrev pub HoldsMemory : Kind → List ℕ → Type 0
-HoldsMemory kind memory = memory_size kind ≤ length memory
-
 abbrev pub HoldsMarks : List ℕ → Type 0
 HoldsMarks marks = mark_count ≤ length marks
 

@@ -1,14 +1,14 @@
 // A finished channel message: 20, 21, then a controller, or a program, into the edit buffer of its sender.
-ghost use Rattle.std.specs.Prelude.{◌≡◌, List, [], ℕ, ◌≤◌, Ok};
+ghost use Rattle.std.specs.Prelude.{◌≡◌, List, [], ℕ, ◌≤◌, Ok, length};
 ghost use Rattle.ground.specs.Calls.{outcome};
-ghost use Rattle.programs.specs.Memory.{program_count};
+ghost use Rattle.programs.specs.Memory.{program_count, memory_size};
 ghost use Rattle.programs.specs.Held.{held_of};
+ghost use Rattle.programs.specs.Lending.{content, SameLent};
 ghost use Rattle.podbox.specs.Messages.{is_heard, is_controller, is_program_change, controller_does, program_change_does, channel_does};
-ghost use Rattle.podbox.specs.Private.{HoldsMemory};
 
 use ground::Refusal;
 use kinds::Kind;
-use programs::{PROGRAMS, Player};
+use programs::{Held, PROGRAMS, Player};
 use sysex::{Answer, Answered, Settings};
 
 pub(crate) fn channel(
@@ -16,19 +16,18 @@ pub(crate) fn channel(
     first: u8,
     second: u8,
     player: Player,
-    kind: Kind,
     settings: Settings,
-    memory: &mut [u8],
+    held: &mut Held,
 ) -> Answered
-    requires { HoldsMemory kind memory.old }
-    ensures { (marks : List ℕ) → outcome result (held_of memory.new marks) [] ≡ channel_does kind settings player status first second (held_of memory.old marks) }
+    ensures same { SameLent held.old held.new }
+    ensures all_after { outcome result (content held.new) [] ≡ channel_does held.old.kind settings player status first second (content held.old) }
 {
     if is_heard(settings, status) {
         if is_controller(status) {
-            return controller(first, second, player, kind, memory);
+            return controller(first, second, player, held.kind, held.memory);
         }
-        if is_program_change(status, first, kind) {
-            change_program(first, player, kind, memory);
+        if is_program_change(status, first, held.kind) {
+            change_program(first, player, held);
             return Ok(Answer::Stored);
         }
         return Err(Refusal::OtherStatus);
@@ -59,6 +58,7 @@ fn is_program_change(status: u8, number: u8, kind: Kind) -> bool
         && number <= PROGRAMS as u8
 }
 
+// A list of moves is lent no marks, so this asks for memory alone, and for its length.
 pub(crate) fn controller(
     number: u8,
     value: u8,
@@ -66,7 +66,7 @@ pub(crate) fn controller(
     kind: Kind,
     memory: &mut [u8],
 ) -> Answered
-    requires { HoldsMemory kind memory.old }
+    requires { memory_size kind ≤ length memory.old }
     ensures { (marks : List ℕ) → outcome result (held_of memory.new marks) [] ≡ controller_does kind player number value (held_of memory.old marks) }
 {
     let place = player.edit_place(kind);
@@ -76,12 +76,13 @@ pub(crate) fn controller(
 }
 
 // Programs are counted from 1 here.
-fn change_program(number: u8, player: Player, kind: Kind, memory: &mut [u8])
-    requires le_number { (1 ≤ number) × (number ≤ program_count) }
-    requires holds_memory { HoldsMemory kind memory.old }
-    ensures { (marks : List ℕ) → outcome (Ok Answer.Stored) (held_of memory.new marks) [] ≡ program_change_does kind player number (held_of memory.old marks) }
+fn change_program(number: u8, player: Player, held: &mut Held)
+    requires { (1 ≤ number) × (number ≤ program_count) }
+    ensures same { SameLent held.old held.new }
+    ensures all_after { outcome (Ok Answer.Stored) (content held.new) [] ≡ program_change_does held.old.kind player number (content held.old) }
 {
-    let size = kind.size() as usize;
+    let size = held.kind.size() as usize;
     let from = (number as usize - 1) * size;
-    memory.copy_within(from..from + size, player.edit_place(kind));
+    let edit = player.edit_place(held.kind);
+    held.memory.copy_within(from..from + size, edit);
 }

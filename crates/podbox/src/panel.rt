@@ -9,7 +9,7 @@ ghost use Rattle.podbox.specs.Private.{bytes_of, body_in};
 use crate::settings;
 use ground::Refusal;
 use kinds::Kind;
-use programs::{MARKS, Player};
+use programs::{Held, Player};
 use sysex::{Answered, Check, Settings};
 
 // 32 for the kind, 30, 31 and 32, 10 and 11, then what its body asks for.
@@ -25,16 +25,12 @@ pub fn whole_message(
     ensures { left result (held_of memory.new marks.new) reply.new ≡ whole_of kind settings player message.now (held_of memory.old marks.old) reply.old }
 {
     let kind = Kind::try_from(kind)?;
-    if memory.len() < programs::memory_size(kind) {
-        return Err(Refusal::TooShort);
-    }
-    if marks.len() < MARKS || reply.len() < sysex::longest(kind) {
-        return Err(Refusal::TooShort);
-    }
+    carrying::are_lent(kind, memory, marks, reply)?;
     let player = Player::try_from(player)?;
     if settings::are_valid(settings) && settings::are_marks(marks) {
         let body = body(message, kind)?;
-        return carrying::carry_out(body, player, kind, settings, memory, marks, reply);
+        let held = &mut Held { kind, memory, marks };
+        return carrying::carry_out(body, player, settings, held, reply);
     }
     Err(Refusal::Unsound)
 }

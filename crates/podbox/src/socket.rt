@@ -1,6 +1,7 @@
 // One byte on one socket.
 ghost use Rattle.std.specs.Prelude.{◌≡◌, ◌&&◌};
 ghost use Rattle.programs.specs.Held.{held_of};
+ghost use Rattle.programs.specs.Lending.{content, SameLent};
 ghost use Rattle.framing.specs.declared.Receiver.{Receiver};
 ghost use Rattle.framing.specs.Receiver.{sound_of};
 ghost use Rattle.framing.specs.Bytes.{step_to};
@@ -8,13 +9,13 @@ ghost use Rattle.sockets.specs.Box.{took, lent};
 ghost use Rattle.sockets.specs.Promise.{step_does};
 ghost use Rattle.podbox.specs.Settings.{is_valid, are_marks};
 ghost use Rattle.podbox.specs.Box.{take_of};
-ghost use Rattle.podbox.specs.Private.{HoldsMemory, HoldsMarks, HasRoom, Within, socket_for, kind_rules, are_lent, are_largest};
+ghost use Rattle.podbox.specs.Private.{HoldsMarks, HasRoom, Within, socket_for, kind_rules, are_lent, are_largest};
 
 use crate::{channel, settings};
 use framing::{Event, Receiver};
 use ground::Refusal;
 use kinds::Kind;
-use programs::{MARKS, Player};
+use programs::{Held, MARKS, Player};
 use sysex::{Answer, Answered, Settings};
 
 // 32 for the kind, 30, 31 and 32, then the byte is taken: a call that is turned away leaves the receiver as it was.
@@ -38,9 +39,8 @@ pub fn take_byte(
         if is_ready(*receiver, limit, settings, marks) {
             let stepped = framing::step(*receiver, byte, limit);
             *receiver = stepped.receiver;
-            return act(
-                stepped.event, player, byte, kind, settings, memory, marks, receive, reply,
-            );
+            let held = &mut Held { kind, memory, marks };
+            return act(stepped.event, player, byte, settings, held, receive, reply);
         }
         return Err(Refusal::Unsound);
     }
@@ -80,16 +80,15 @@ fn act(
     event: Event,
     player: Player,
     byte: u8,
-    kind: Kind,
     settings: Settings,
-    memory: &mut [u8],
-    marks: &mut [u8],
+    held: &mut Held,
     receive: &mut [u8],
     reply: &mut [u8],
 ) -> Answered
-    requires holds_memory { HoldsMemory kind memory.old × HoldsMarks marks.old × HasRoom kind receive.old × HasRoom kind reply.old }
-    requires within { Within kind event }
-    ensures { (next : Receiver) → took next result (held_of memory.new marks.new) receive.new reply.new ≡ step_does (kind_rules kind settings) (socket_for player) byte (lent next (held_of memory.old marks.old) receive.old reply.old) (step_to next event) }
+    requires room { HasRoom held.old.kind receive.old × HasRoom held.old.kind reply.old }
+    requires within { Within held.old.kind event }
+    ensures same { SameLent held.old held.new }
+    ensures all_after { (next : Receiver) → took next result (content held.new) receive.new reply.new ≡ step_does (kind_rules held.old.kind settings) (socket_for player) byte (lent next (content held.old) receive.old reply.old) (step_to next event) }
 {
     match event {
         Event::Nothing => Ok(Answer::Taken),
@@ -103,17 +102,12 @@ fn act(
             Ok(Answer::Cut)
         }
         Event::TooLong => Err(Refusal::TooLong),
-        Event::SysEx(count) => carrying::carry_out(
-            &receive[..count as usize],
-            player,
-            kind,
-            settings,
-            memory,
-            marks,
-            reply,
-        ),
+        Event::SysEx(count) => {
+            let body = &receive[..count as usize];
+            carrying::carry_out(body, player, settings, held, reply)
+        }
         Event::Channel(status, first, second) => {
-            channel::channel(status, first, second, player, kind, settings, memory)
+            channel::channel(status, first, second, player, settings, held)
         }
     }
 }
