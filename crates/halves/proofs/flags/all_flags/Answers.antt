@@ -6,11 +6,11 @@ use Rattle.halves.proofs.flags.all_flags.Goals as goal
 pub returns-then-each_are_flags : goal.returns-then-each_are_flags
 returns-then-each_are_flags c =
     let last = c.in-Some.ensures.cases in
-    rw (← c.as_chunks.ensures.front, ← c.each_are_flags.ensures, c.if-each_are_flags.true, ← c.are_flags.ensures)
-    at (eights_last _ c.in-Some.last.now last.0 last.1.same)
+    let whole = eights_last _ c.in-Some.last.now last.0 last.1.same in
+    c.are_flags.ensures ∙ (rw (← c.as_chunks.ensures.front, ← c.each_are_flags.ensures, c.if-each_are_flags.true) at whole)
 
 pub returns-else-each_are_flags : goal.returns-else-each_are_flags
 returns-else-each_are_flags c =
     let last = c.in-Some.ensures.cases in
-    c.if-each_are_flags.false
-    ∙ (rw (← c.as_chunks.ensures.front, ← c.each_are_flags.ensures, c.if-each_are_flags.false) at (eights_last _ c.in-Some.last.now last.0 last.1.same))
+    let whole = eights_last _ c.in-Some.last.now last.0 last.1.same in
+    c.if-each_are_flags.false ∙ (rw (← c.as_chunks.ensures.front, ← c.each_are_flags.ensures, c.if-each_are_flags.false) at whole)
