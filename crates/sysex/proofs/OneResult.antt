@@ -1,5 +1,6 @@
 -- Each promise of this crate leaves room for one result only.
 use Prim.Native.Nat.{ℕ}
+use mathlib.Core.Bool.{Bool}
 use mathlib.Core.List.{List}
 use mathlib.Core.Path.{◌≡◌}
 use Rattle.ground.proofs.OneResult.{one}
@@ -12,7 +13,10 @@ use Rattle.sysex.specs.declared.Check.{Check}
 use Rattle.sysex.specs.declared.Order.{Order}
 use Rattle.sysex.specs.Numbers.{Answered, answer_number, answer_length, refusal_for, check_number, order_number}
 use Rattle.sysex.specs.Judging.{judge_of}
-use Rattle.sysex.specs.Forms.{type_for, version_place, longest}
+use Rattle.sysex.specs.Forms.{hears, type_for, version_place, longest}
+
+pub hears-one : (settings : Settings) (channel : ℕ) (r s : Bool) → r ≡ hears settings channel → s ≡ hears settings channel → r ≡ s
+hears-one settings channel r s = one
 
 pub judge-one : (kind : Kind) (settings : Settings) (body : List ℕ) (r s : Result Order Check) → r ≡ judge_of kind settings body → s ≡ judge_of kind settings body → r ≡ s
 judge-one kind settings body r s = one

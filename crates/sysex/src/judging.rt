@@ -6,6 +6,7 @@ ghost use Rattle.sysex.specs.Judging.{judged_by, form_tests, form_order, judge_o
 ghost use Rattle.sysex.specs.Private.{behind, opcode_byte, identity_in, form_in, target_in, channel_test, length_test, program_test, version_test, halves_test};
 
 use crate::{Check, Order, Settings};
+use halves::HALF;
 use kinds::Kind;
 use programs::{PROGRAMS, Target};
 
@@ -22,10 +23,8 @@ const ALL: u8 = 2;
 
 pub const VERSION: u8 = 0;
 
-// The highest program, and the highest half byte.
+// The highest program.
 const LAST: u8 = PROGRAMS as u8 - 1;
-
-const HALF: u8 = 0x0F;
 
 #[derive(Clone, Copy, Debug, PartialEq, Eq)]
 enum Opcode {
@@ -78,7 +77,7 @@ fn identity_in(body: &[u8]) -> Option<u8>
 fn channel_judged(settings: Settings, cc: u8) -> Result<(), Check>
     ensures { result ≡ behind (channel_test settings cc) tt }
 {
-    if cc == settings.channel || cc == 0x7F || settings.omni == 1 {
+    if cc == 0x7F || settings.hears(cc) {
         Ok(())
     } else {
         Err(Check::Channel(settings.channel))
@@ -210,6 +209,7 @@ fn data_judged(body: &[u8], target: Target) -> Result<(), Check>
 }
 
 // Where the version of a dump stands, one place before its data.
+// It takes a byte, and not a `Target`: `version_place` is promised of every type.
 pub fn version_place(typed: u8) -> usize
     ensures { result ≡ version_place typed }
 {

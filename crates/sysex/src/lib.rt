@@ -1,6 +1,9 @@
 // SysEx: what a message's body asks for, and the numbers of orders and answers. A body is F0 and the bytes after it,
 // without F7, as it stands in a receive buffer; nothing is assumed of its bytes.
-#![tactic(auto, unfolding(crate::specs::Forms::body_length, crate::specs::Forms::is_identity, crate::specs::Forms::is_our_channel, crate::specs::Judging::has_form, crate::specs::Judging::has_program, crate::specs::Judging::further_tests, crate::specs::Judging::order_of, crate::specs::Judging::body_order, crate::specs::Judging::judge_of), using(crate::proofs::Lengths::bounds, ground::proofs::Tests::tests))]
+#![tactic(auto, unfolding(crate::specs::Forms::body_length, crate::specs::Forms::is_identity, crate::specs::Forms::hears, crate::specs::Forms::is_our_channel, crate::specs::Judging::has_form, crate::specs::Judging::has_program, crate::specs::Judging::further_tests, crate::specs::Judging::order_of, crate::specs::Judging::body_order, crate::specs::Judging::judge_of), using(crate::proofs::Lengths::bounds, ground::proofs::Tests::tests))]
+
+ghost use Rattle.std.specs.Prelude.{◌≡◌};
+ghost use Rattle.sysex.specs.Forms.{hears};
 
 mod judging;
 mod numbers;
@@ -19,6 +22,15 @@ pub struct Settings {
     pub revision1: u8,
     pub revision2: u8,
     pub revision3: u8,
+}
+
+impl Settings {
+    // Whether a message on this channel is ours: on the box's own, or on any where omni is on.
+    pub fn hears(self, channel: u8) -> bool
+        ensures { result ≡ hears self channel }
+    {
+        channel == self.channel || self.omni == 1
+    }
 }
 
 // A check that a message fails, with what it expects: document 01's tests 10 to 16, and 22.
