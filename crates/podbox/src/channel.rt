@@ -4,13 +4,14 @@ ghost use Rattle.ground.specs.Calls.{outcome};
 ghost use Rattle.programs.specs.Memory.{program_count, memory_size};
 ghost use Rattle.programs.specs.Held.{held_of};
 ghost use Rattle.programs.specs.Lending.{content, SameLent};
-ghost use Rattle.podbox.specs.Messages.{is_heard, is_controller, is_program_change, controller_does, program_change_does, channel_does};
+ghost use Rattle.podbox.specs.Messages.{is_controller, is_program_change, controller_does, program_change_does, channel_does};
 
 use ground::Refusal;
 use kinds::Kind;
 use programs::{Held, PROGRAMS, Player};
 use sysex::{Answer, Answered, Settings};
 
+#[tactic(auto, unfolding(sysex::specs::Forms::hears, crate::specs::Messages::is_heard, crate::specs::Messages::channel_does), using(ground::proofs::Tests::tests, crate::proofs::Taking::change_numbered))]
 pub(crate) fn channel(
     status: u8,
     first: u8,
@@ -22,7 +23,7 @@ pub(crate) fn channel(
     ensures same { SameLent held.old held.new }
     ensures all_after { outcome result (content held.new) [] ≡ channel_does held.old.kind settings player status first second (content held.old) }
 {
-    if is_heard(settings, status) {
+    if settings.hears(status % 16) {
         if is_controller(status) {
             return controller(first, second, player, held.kind, held.memory);
         }
@@ -33,13 +34,6 @@ pub(crate) fn channel(
         return Err(Refusal::OtherStatus);
     }
     Err(Refusal::OtherChannel)
-}
-
-// On our channel, or any where omni is on.
-fn is_heard(settings: Settings, status: u8) -> bool
-    ensures { result ≡ is_heard settings status }
-{
-    status % 16 == settings.channel || settings.omni == 1
 }
 
 fn is_controller(status: u8) -> bool

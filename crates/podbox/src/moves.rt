@@ -36,11 +36,8 @@ pub fn list_answer(
         return Err(Refusal::TooShort);
     }
     let _ = Player::try_from(player)?;
-    if settings::are_valid(settings) {
-        Ok(Answer::Taken)
-    } else {
-        Err(Refusal::Unsound)
-    }
+    settings::are_valid(settings)?;
+    Ok(Answer::Taken)
 }
 
 // A move into a player's edit buffer.

@@ -7,12 +7,12 @@ ghost use Rattle.podbox.specs.Box.{whole_of};
 ghost use Rattle.podbox.specs.Private.{bytes_of, body_in};
 
 use crate::settings;
-use ground::Refusal;
 use kinds::Kind;
 use programs::{Held, Player};
 use sysex::{Answered, Check, Settings};
 
 // 32 for the kind, 30, 31 and 32, 10 and 11, then what its body asks for.
+#[tactic(auto, unfolding(sockets::specs::Promise::direct_of, kinds::specs::Kinds::kind_from, programs::specs::Memory::player_from), using(ground::proofs::Tests::tests))]
 pub fn whole_message(
     message: &[u8],
     player: u32,
@@ -27,12 +27,11 @@ pub fn whole_message(
     let kind = Kind::try_from(kind)?;
     carrying::are_lent(kind, memory, marks, reply)?;
     let player = Player::try_from(player)?;
-    if settings::are_valid(settings) && settings::are_marks(marks) {
-        let body = body(message, kind)?;
-        let held = &mut Held { kind, memory, marks };
-        return carrying::carry_out(body, player, settings, held, reply);
-    }
-    Err(Refusal::Unsound)
+    settings::are_valid(settings)?;
+    settings::are_marks(marks)?;
+    let body = body(message, kind)?;
+    let held = &mut Held { kind, memory, marks };
+    carrying::carry_out(body, player, settings, held, reply)
 }
 
 // The message without its F7, where it is no longer than the longest and is framed.
