@@ -17,7 +17,7 @@ use Rattle.sockets.specs.History.{WorldOf, History}
 use Rattle.sockets.specs.Players.{seen_after}
 use Rattle.sysex.specs.declared.Settings.{Settings}
 use Rattle.sysex.specs.Forms.{longest, request_body, dump_body, identity_body, ended}
-use Rattle.sysex.specs.Numbers.{answer_number, answer_length}
+use Rattle.sysex.specs.Numbers.{answer_number, answer_length, Answered}
 use Rattle.carrying.specs.Carrying.{Left}
 use Rattle.podbox.specs.declared.Move.{Move}
 use Rattle.podbox.specs.Settings.{fresh_settings, fresh_held}

@@ -1,5 +1,5 @@
 -- Req 05: "Our lighting desk sends scenes as knob moves." Lists on a fresh box, and one run with two sockets, lists and a panel message between their bytes.
-use Rattle.std.specs.Prelude.{ℕ, List, [], ◌∷◌, map, ◌≡◌, get_or, replicate}
+use Rattle.std.specs.Prelude.{ℕ, List, [], ◌∷◌, map, ◌≡◌, get_or, replicate, Ok}
 use Rattle.kinds.specs.declared.Kind.{Kind}
 use Rattle.kinds.specs.declared.Kind.TheVariants.{Pod, BassPod}
 use Rattle.kinds.specs.Kinds.{number_of}
@@ -14,7 +14,7 @@ use Rattle.sockets.specs.Box.{Said, said}
 use Rattle.sysex.specs.declared.Settings.{Settings}
 use Rattle.sysex.specs.declared.Answer.TheVariants.{Taken}
 use Rattle.sysex.specs.Forms.{request_body, ended}
-use Rattle.sysex.specs.Numbers.{answer_number}
+use Rattle.sysex.specs.Numbers.{answer_number, Answered}
 use Rattle.carrying.specs.Carrying.{Left}
 use Rattle.podbox.specs.declared.Move.{Move}
 use Rattle.podbox.specs.Settings.{fresh_settings, fresh_held}

@@ -1,4 +1,5 @@
 -- What a player's message does, as it goes by the programs and the player's edit buffer alone: it leaves all, or writes that buffer, or writes programs.
+use Rattle.sysex.specs.Numbers.{Answered}
 use Rattle.sysex.specs.declared.Check.{Check}
 use Rattle.std.specs.Prelude.{Result, Ok}
 use Prim.Native.Nat.{ℕ, ◌-◌, ◌≤◌}

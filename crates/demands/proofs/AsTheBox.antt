@@ -8,7 +8,7 @@ use Rattle.programs.specs.Held.{Held}
 use Rattle.framing.specs.declared.Receiver.{Receiver}
 use Rattle.sockets.specs.Box.{Took, took}
 use Rattle.sysex.specs.declared.Settings.{Settings}
-use Rattle.sysex.specs.Numbers.{answer_number}
+use Rattle.sysex.specs.Numbers.{answer_number, Answered}
 use Rattle.podbox.specs.declared.Move.{Move}
 use Rattle.podbox.specs.Box.{take_of, whole_of, moves_of}
 use Rattle.costerbloom.specs.Numbers.{take_numbers, whole_numbers, moves_numbers}

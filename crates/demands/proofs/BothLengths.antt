@@ -1,6 +1,6 @@
 -- Req 06: what a dump leaves, long or short; when a length is wrong; and that nothing but a dump moves a mark.
 use Rattle.sysex.specs.declared.Check.{Check}
-use Rattle.std.specs.Prelude.{Result, Ok, Err}
+use Rattle.std.specs.Prelude.{Result, Err}
 use Rattle.ground.specs.Refusals.{refusal_number}
 use Rattle.ground.specs.declared.Refusal.TheVariants as refusal
 use Rattle.ground.specs.declared.Refusal.{Refusal}
@@ -35,10 +35,9 @@ use Rattle.sysex.specs.declared.Settings.{Settings}
 use Rattle.sysex.specs.declared.Check.{Check}
 use Rattle.sysex.specs.declared.Order.{Order}
 use Rattle.sysex.specs.Forms.{begins, opcode_of, type_of, request, dump, type_for, data_place, body_length, whole_length, shortest, dump_body, is_identity, ended}
-use Rattle.sysex.specs.Numbers.{check_number}
+use Rattle.sysex.specs.Numbers.{refusal_for}
 use Rattle.sysex.specs.Judging.{has_form, is_known, has_length, further_tests, tests_of, identity_tests, form_tests, data_tests, body_order, judge_of}
 use Rattle.sysex.specs.Formats.{There, IsDump, Meant, identity, asked, dumped, unsaid}
-use Rattle.sysex.proofs.Numbered.{passed_done}
 use Rattle.carrying.specs.Carrying.{Outcome, refusing, storing, order_does, body_does}
 use Rattle.carrying.proofs.Numbered.{done_not_refused}
 use Rattle.carrying.proofs.Understands.{begun, halves_sent, data_behind, meant}
@@ -233,7 +232,7 @@ module _ (kind : Kind) (settings : Settings) (body : List ℕ) where
   pub wrong_length : (player : Player) (held : Held) → ((body_does kind settings player body held).answer ≡ Err refusal.WrongLength) ↔ WrongLength kind body
   unfolding judge_of
   wrong_length player held =
-      let order = in_order (numbered (tests_of kind settings body)) _ _ refusal.WrongLength (done_not_refused kind settings player body held refusal.WrongLength (body_order body) (passed_done body)) (checks_tested kind settings player held (tests_of kind settings body) body) in
+      let order = in_order (numbered (tests_of kind settings body)) _ _ refusal.WrongLength (done_not_refused kind settings player body held refusal.WrongLength (body_order body)) (checks_tested kind settings player held (tests_of kind settings body) body) in
       ((λ e. first_wrong (order.0 e)), (λ w. order.1 (wrong_first w)))
 
 -- Nothing but a dump moves a mark, whoever sends it.

@@ -32,7 +32,7 @@ use Rattle.sockets.proofs.Unnoticed.{unnoticed}
 use Rattle.sysex.specs.declared.Settings.{Settings}
 use Rattle.sysex.specs.declared.Order.{Order}
 use Rattle.sysex.specs.Judging.{judge_of}
-use Rattle.sysex.specs.Formats.{Meant, identity, asked, dumped, unsaid, store_order}
+use Rattle.sysex.specs.Formats.{Meant, identity, asked, dumped, unsaid}
 use Rattle.carrying.specs.Carrying.{Outcome}
 use Rattle.carrying.proofs.Understands.{meant}
 use Rattle.podbox.specs.declared.Move.{Move}

@@ -1,4 +1,5 @@
 -- What is put in a player's edit buffer changes it alone; and what a controller that is applied does.
+use Rattle.std.specs.Prelude.{Ok}
 use Prim.Native.Nat.{ℕ, ◌≤◌}
 use mathlib.Core.List.{List, []}
 use mathlib.Core.Logic.{⊎_elim}

@@ -20,7 +20,7 @@ use Rattle.kinds.specs.declared.Kind.TheVariants.{Pod, PodPro}
 use Rattle.kinds.specs.Kinds.{is_kind, kind_of, number_of, size_of, has_spare, device_of, takes_program_change, highest_model}
 use Rattle.programs.specs.declared.Player.{Player}
 use Rattle.programs.specs.declared.Target.{Target}
-use Rattle.programs.specs.declared.Target.TheVariants.{Edit}
+use Rattle.programs.specs.declared.Target.TheVariants.{Edit, One, All}
 use Rattle.programs.specs.Held.{Held, bytes_in}
 use Rattle.controls.specs.Formulas.{number_by, number_for, next_for}
 use Rattle.controls.specs.Table.{table, row_of, selected}
@@ -88,7 +88,7 @@ order_same settings player (Err check) body held not = refl
 -- what is no identity request is not judged to be one
 not_identify : (tests : List (Test Check)) (body : List ℕ) → (AllHold tests → is_identity body ≡ false) → NotIdentify (judged_by tests (body_order body))
 unfolding body_order
-not_identify tests body other = tested_cases NotIdentify tests Err (Ok (body_order body)) (λ all. rw (other all) (order_cases (λ (o : Order). NotIdentify (Ok o)) (opcode_of body) (type_of body) (program_of body) tt tt tt tt tt tt)) (λ _ _. tt)
+not_identify tests body other = tested_cases NotIdentify tests Err (Ok (body_order body)) (λ all. rw (other all) (order_cases (λ (o : Order). NotIdentify (Ok o)) (opcode_of body) (type_of body) (program_of body) tt tt)) (λ _ _. tt)
 
 module _ (settings : Settings) (player : Player) (held : Held) where
   -- Every SysEx that is not an identity request does the same,

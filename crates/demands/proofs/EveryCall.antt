@@ -1,6 +1,5 @@
 -- Demand 1: every byte on either socket, in any state, is answered, and so is every message of the panel; and what each answer leaves.
 
-use Rattle.ground.specs.declared.Refusal.{Refusal}
 use Rattle.std.specs.Prelude.{Result, Ok, Err}
 use Prim.Native.Nat.{ℕ, ◌≤◌}
 use mathlib.Core.List.{List}

@@ -31,7 +31,7 @@ use Rattle.sockets.specs.Promise.{step_does}
 use Rattle.sysex.specs.declared.Settings.{Settings}
 use Rattle.sysex.specs.declared.Order.{Order}
 use Rattle.sysex.specs.declared.Answer.TheVariants.{Stored, Sent}
-use Rattle.sysex.specs.Forms.{type_for, data_place, longest, request_body, dump_body, is_long, identity_reply, ended}
+use Rattle.sysex.specs.Forms.{type_for, data_place, longest, dump_body, is_long, identity_reply, ended}
 use Rattle.sysex.specs.Judging.{judge_of}
 use Rattle.sysex.specs.Formats.{IsDump, IsRequest, IsIdentity, Meant, identity, asked, dumped, unsaid}
 use Rattle.carrying.specs.Carrying.{Outcome, refusing, order_does, body_does, sending, answering}

@@ -27,8 +27,8 @@ use Rattle.programs.proofs.Players.{edit-inside}
 use Rattle.sysex.specs.declared.Settings.{Settings}
 use Rattle.sysex.specs.Forms.{type_for, data_place, longest, request_body, dump_body, ended}
 use Rattle.sysex.specs.Judging.{has_form, body_order}
-use Rattle.sysex.specs.Formats.{There, IsDump, IsRequest, IsIdentity, send_order, store_order, Meant, unsaid}
-use Rattle.carrying.specs.Carrying.{order_does, body_does, answering, storing}
+use Rattle.sysex.specs.Formats.{There, IsDump, IsRequest, IsIdentity, Meant, unsaid}
+use Rattle.carrying.specs.Carrying.{body_does}
 use Rattle.carrying.proofs.Parts.{program-inside}
 use Rattle.carrying.proofs.Understands.{passed_meant}
 use Rattle.podbox.specs.Messages.{message_does}

@@ -26,7 +26,7 @@ use Rattle.programs.proofs.Parts.{edit-length}
 use Rattle.controls.specs.Table.{row_of}
 use Rattle.controls.specs.Refusals.{move_tests}
 use Rattle.controls.specs.Applying.{Changed, changed, apply_tests, unchanged, store_row}
-use Rattle.controls.specs.Answers.{refusal_of, value_of}
+use Rattle.controls.specs.Answers.{value_of}
 use Rattle.controls.specs.Fields.{number_in}
 use Rattle.controls.specs.Scaling.{scale_of}
 use Rattle.controls.specs.Showing.{shown_of, back_tests, back_of}
@@ -42,12 +42,10 @@ use Rattle.sockets.specs.Box.{lent, took, happening_does, direct_does}
 use Rattle.sockets.specs.Promise.{happening_of, socket_of, step_does, byte_of, direct_of}
 use Rattle.sysex.specs.declared.Settings.{Settings}
 use Rattle.sysex.specs.declared.Order.{Order}
-use Rattle.sysex.specs.declared.Order.TheVariants as order
 use Rattle.sysex.specs.declared.Answer.TheVariants as answer
 use Rattle.sysex.specs.declared.Check.{Check}
 use Rattle.sysex.specs.Numbers.{Answered, refusal_for}
 use Rattle.sysex.specs.Judging.{tests_of, judged_by, body_order, judge_of}
-use Rattle.sysex.proofs.Numbered.{passed_done}
 use Rattle.carrying.specs.Carrying.{Outcome, Left, refusing, order_does, memory_test}
 use Rattle.carrying.proofs.Numbered.{done_not_refused}
 use Rattle.podbox.specs.declared.Move.{Move}
@@ -94,7 +92,7 @@ module _ (kind : Kind) (settings : Settings) (player : Player) (held : Held) whe
   passed_not : (h : Happening) (why : Refusal) → passed h ≡ Err why → ⊥
   passed_not Nothing why e = not_err why e
   passed_not Cut why e = not_err why e
-  passed_not (Finished (SysEx body)) why e = done_not_refused kind settings player body held why (body_order body) (passed_done body) e
+  passed_not (Finished (SysEx body)) why e = done_not_refused kind settings player body held why (body_order body) e
   passed_not (Finished TooLong) why e = not_err why e
   passed_not (Finished (Channel status first second)) why e =
       by (λ (given : Answered). given ≡ Err why → ⊥) (is_controller status) (Ok answer.Applied) (Ok answer.Stored)
@@ -168,7 +166,7 @@ module _ (kind_number : ℕ) (settings : Settings) (player_number : ℕ) (messag
   pub panel_order : (why : Refusal) → ((whole_of kind_number settings player_number message held reply).answer ≡ Err why) ↔ FirstToFail (panel_tests kind_number settings player_number message held reply) why
   panel_order why =
       in_order (panel_tests kind_number settings player_number message held reply) _ _ why
-      (done_not_refused (kind_of kind_number) settings (player_of player_number) (body_of message) held why (body_order (body_of message)) (passed_done (body_of message))) whole-tested
+      (done_not_refused (kind_of kind_number) settings (player_of player_number) (body_of message) held why (body_order (body_of message))) whole-tested
 
 -- A list of moves: 33, 34, 32 for the kind, 30, 31, 32.
 pub list-order : (kind_number : ℕ) (settings : Settings) (player_number : ℕ) (moves : List Move) (held : Held) (numbers : List ℕ) (why : Refusal)
@@ -225,4 +223,4 @@ showing-order kind_number player_number controller memory why =
     let front = kind_test kind_number ∷ memory_test kind (length memory) ∷ player_test player_number ∷ back_tests kind r edit in
     in_order (showing_tests kind_number player_number controller memory) _ (Ok (value_of x)) why (not_err why)
     (ap (tested front Err) (shown-tested kind controller (number_in r edit))
-    ∙ sym (tested-append front (test 40 (is_value x) ∷ []) Err (Ok (value_of x))))
+    ∙ sym (tested-append front (test NoneGives (is_value x) ∷ []) Err (Ok (value_of x))))

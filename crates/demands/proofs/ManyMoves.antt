@@ -34,7 +34,7 @@ use Rattle.sockets.specs.Demand.{framer_of, Sound, starts}
 use Rattle.sockets.proofs.Fed.{two_awaited, At, behind, channel-stands, channel_finishes, channel_answers}
 use Rattle.sysex.specs.declared.Settings.{Settings}
 use Rattle.sysex.specs.declared.Answer.TheVariants.{Taken}
-use Rattle.sysex.specs.Numbers.{answer_number}
+use Rattle.sysex.specs.Numbers.{answer_number, Answered}
 use Rattle.carrying.specs.Carrying.{Outcome}
 use Rattle.podbox.specs.declared.Move.{Move}
 use Rattle.podbox.specs.Settings.{is_valid}

@@ -1,6 +1,6 @@
 -- What carrying out a message can do to the marks: they stay, or a dump that is stored moves those of what it names.
 use Rattle.sysex.specs.declared.Check.{Check}
-use Rattle.std.specs.Prelude.{Result, Ok}
+use Rattle.std.specs.Prelude.{Result}
 use Prim.Native.Nat.{ℕ, zero, suc, ◌+◌, ◌≤◌}
 use mathlib.Core.Bool.{Bool, true, false, cond}
 use mathlib.Core.List.{List}

@@ -1,4 +1,5 @@
 -- The program change of a Bass box: what it does, that nothing else does it, and that a POD takes none.
+use Rattle.sysex.specs.Numbers.{answer_number}
 use Rattle.std.proofs.lemmas.Result.{IfErr-at_err}
 use Rattle.std.specs.Prelude.{⊤, Result, Ok, Err}
 use Rattle.ground.specs.declared.Refusal.TheVariants.{OtherStatus}
@@ -7,7 +8,7 @@ use Prim.Native.Nat.{ℕ, ◌-◌, ◌/◌, ◌≤◌, ◌<◌}
 use mathlib.Core.Bool.{true, false, ◌&&◌}
 use mathlib.Core.List.{List}
 use mathlib.Core.Logic.{◌⊎◌, ⊎_elim, ◌↔◌}
-use mathlib.Core.Path.{◌≡◌, refl, ap, ◌∙◌}
+use mathlib.Core.Path.{◌≡◌, refl, ap, ◌∙◌, sym}
 use native.Mathlib.Omega.{arith}
 use lib.Dec.{eqb, leb}
 use lib.ListN.{length, length-take, length-drop}

@@ -17,7 +17,7 @@ use Rattle.podbox.specs.Whole.{is_framed, body_of, message_tests}
 -- of a message that is refused, that; of one that is accepted every check holds, and the number is 1 or 2
 pub data Because (kind : Kind) (message : List ℕ) : Result Order Check → Type 0 where
   fails : (check : Check) → FirstToFail (message_tests kind fresh_settings message) check → Because kind message (Err check)
-  passes : (order : Order) → AllHold (message_tests kind fresh_settings message) → IsDone (Ok order) → Because kind message (Ok order)
+  passes : (order : Order) → AllHold (message_tests kind fresh_settings message) → IsDone order → Because kind message (Ok order)
 
 -- What the check that fails expects is not so, with the opcode and type that this rests on. These are all that a check of a fresh box can expect: with
 -- the programs up to 0x23 (`message-meant`) and the whole lengths of the six forms (`as_the_table_says`) they are all the lines that can be printed.

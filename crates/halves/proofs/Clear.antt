@@ -1,6 +1,6 @@
 -- Bytes of which none has a bit above the lowest: eight of them as one number, and a list of which all eights and the last are looked at.
 use Prim.Native.Nat.{ℕ, zero, suc, ◌+◌, ◌-◌, ◌*◌, ◌/◌, ◌%◌, ◌^◌, ◌<◌, ◌≤◌}
-use mathlib.Core.Bool.{Bool, true, false, ◌&&◌}
+use mathlib.Core.Bool.{Bool, ◌&&◌}
 use mathlib.Core.List.{List, [], ◌∷◌, ◌++◌}
 use mathlib.Core.Path.{◌≡◌, refl, sym, ap, ◌∙◌}
 use native.Mathlib.Nat.{add_comm, mul-pos, mul-le-mul_right, mod-eq_of_lt, pow-suc}
@@ -10,7 +10,7 @@ use lib.Dec.{eqb, leb}
 use lib.ListN.{length, get_or, take, drop, take-append-drop}
 use lib.Pow.{pow_pos, pow-add}
 use lib.Seq.{take-suc, take-add, take_all, drop-drop}
-use borrow.Author.Tests.{eqb-true, eqb-false, eq-eqb, ne_eqb, leb-true, leb-false}
+use Rattle.std.proofs.lemmas.Bool.Decides.{nat_tests}
 use Rattle.std.specs.Cmp.{both_ways}
 use Rattle.std.specs.Int.{w64, from_le_bytes, sum_through, byte_worth}
 use Rattle.std.specs.List.{list_all}
@@ -24,30 +24,21 @@ clear : ℕ → ℕ → Bool
 clear mask n = eqb (bit_and n mask) 0
 
 -- a sum of a multiple and another number is 0 where both are
-no_sum : (a b p : ℕ) (u v : Bool) → 0 < p → eqb b 0 ≡ u → eqb a 0 ≡ v → eqb (a * p + b) 0 ≡ (u && v)
-no_sum a b p true true h e f = rw (eqb-true a 0 f, eqb-true b 0 e) (eq-eqb (0 * p + 0) 0 (omega arith))
-no_sum a b p true false h e f =
-    let some = eqb-false a 0 f in
-    let more : 0 < a * p = mul-pos (omega arith) h in
-    ne_eqb (a * p + b) 0 (λ z. omega arith)
-no_sum a b p false v h e f = let some = eqb-false b 0 e in ne_eqb (a * p + b) 0 (λ z. omega arith)
+no_sum : (a b p : ℕ) → 0 < p → eqb (a * p + b) 0 ≡ (eqb b 0 && eqb a 0)
+no_sum zero b p h = grind (arith, nat_tests)
+no_sum (suc a) b p h = let more : 0 < suc a * p = mul-pos (omega arith) h in grind (arith, nat_tests)
 
 parts_clear : (k low low_mask high mask : ℕ) → low < 2 ^ k → low_mask < 2 ^ k → clear (mask * 2 ^ k + low_mask) (high * 2 ^ k + low) ≡ (clear low_mask low && clear mask high)
 unfolding clear
 parts_clear k low low_mask high mask l h =
-    ap (λ n. eqb n 0) (and_block k high mask low low_mask l h) ∙ no_sum (bit_and high mask) (bit_and low low_mask) (2 ^ k) _ _ (pow_pos k) refl refl
+    ap (λ n. eqb n 0) (and_block k high mask low low_mask l h) ∙ no_sum (bit_and high mask) (bit_and low low_mask) (2 ^ k) (pow_pos k)
 
 -- one byte
-lowest : (b : ℕ) (u : Bool) → b < 256 → leb b 1 ≡ u → eqb (b / 2 % 128 * 2) 0 ≡ u
-lowest b true h e = let low = leb-true b 1 e in eq-eqb (b / 2 % 128 * 2) 0 (omega arith)
-lowest b false h e =
-    let high = leb-false b 1 e in
-    let small : b / 2 % 128 ≡ b / 2 = mod-eq_of_lt (omega arith) in
-    rw small (ne_eqb (b / 2 * 2) 0 (λ z. omega arith))
-
 byte_clear : (b : ℕ) → b < 256 → clear 0xFE b ≡ leb b 1
 unfolding clear
-byte_clear b l = ap (λ n. eqb n 0) (and_high b 7 1) ∙ lowest b _ l refl
+byte_clear b l =
+    let small : b / 2 % 128 ≡ b / 2 = mod-eq_of_lt (omega arith) in
+    rw (and_high b 7 1, small) (grind (arith, nat_tests))
 
 bits : (k : ℕ) → 256 ^ k ≡ 2 ^ (8 * k)
 bits zero = refl
