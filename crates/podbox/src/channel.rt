@@ -23,17 +23,17 @@ pub(crate) fn channel(
     ensures same { SameLent held.old held.new }
     ensures all_after { outcome result (content held.new) [] ≡ channel_does held.old.kind settings player status first second (content held.old) }
 {
-    if settings.hears(status % 16) {
-        if is_controller(status) {
-            return controller(first, second, player, held.kind, held.memory);
-        }
-        if is_program_change(status, first, held.kind) {
-            change_program(first, player, held);
-            return Ok(Answer::Stored);
-        }
-        return Err(Refusal::OtherStatus);
+    if !settings.hears(status % 16) {
+        return Err(Refusal::OtherChannel);
     }
-    Err(Refusal::OtherChannel)
+    if is_controller(status) {
+        controller(first, second, player, held.kind, held.memory)
+    } else if is_program_change(status, first, held.kind) {
+        change_program(first, player, held);
+        Ok(Answer::Stored)
+    } else {
+        Err(Refusal::OtherStatus)
+    }
 }
 
 fn is_controller(status: u8) -> bool

@@ -13,8 +13,8 @@ use sysex::{Answer, Answered, Settings};
 // The most moves that a list has.
 const MOST_MOVES: usize = 256;
 
-// What a list of so many moves is answered, by the lengths of memory and of the buffer for its numbers: the loop over the
-// moves holds these two while it asks, so no slice is lent.
+// What a list of so many moves is answered, by the lengths of memory and of the buffer for its numbers: whoever asks need
+// not lend them, as `list_answer` of specs/Box has it.
 pub fn list_answer(
     count: usize,
     player: u32,
@@ -35,7 +35,7 @@ pub fn list_answer(
     if memory < programs::memory_size(kind) {
         return Err(Refusal::TooShort);
     }
-    let _ = Player::try_from(player)?;
+    Player::try_from(player)?;
     settings::are_valid(settings)?;
     Ok(Answer::Taken)
 }

@@ -12,7 +12,7 @@ use programs::{Held, Player};
 use sysex::{Answered, Check, Settings};
 
 // 32 for the kind, 30, 31 and 32, 10 and 11, then what its body asks for.
-#[tactic(auto, unfolding(sockets::specs::Promise::direct_of, kinds::specs::Kinds::kind_from, programs::specs::Memory::player_from), using(ground::proofs::Tests::tests))]
+#[tactic(auto, unfolding(sockets::specs::Promise::direct_of, kinds::specs::Kinds::kind_from, programs::specs::Memory::player_from, carrying::specs::Carrying::order_does, crate::specs::Whole::message_order, crate::specs::Private::body_in), using(ground::proofs::Tests::tests))]
 pub fn whole_message(
     message: &[u8],
     player: u32,
