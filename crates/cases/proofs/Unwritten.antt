@@ -5,11 +5,9 @@ use Prim.Native.Nat.{ℕ, suc, ◌+◌, ◌<◌}
 use mathlib.Core.List.{List, []}
 use mathlib.Core.Path.{◌≡◌, refl, sym, subst, ◌∙◌}
 use native.Mathlib.Omega.{arith}
-use lib.Dec.{eqb}
 use lib.ListN.{get_or, replicate, length-replicate, get_or-replicate, get_or-append}
 use Rattle.ground.specs.Tests.{Test, tested}
 use Rattle.ground.specs.Calls.{left, leaves}
-use Rattle.ground.proofs.Tests.{by}
 use Rattle.ground.proofs.InOrder.{tested_cases, tested-map}
 use Rattle.kinds.specs.declared.Kind.TheVariants.{Pod}
 use Rattle.kinds.specs.Kinds.{kind_of}

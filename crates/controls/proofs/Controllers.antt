@@ -5,7 +5,6 @@ use mathlib.Core.List.{List}
 use mathlib.Core.Logic.{⊎_elim, ◌↔◌}
 use mathlib.Core.Path.{◌≡◌, refl, sym, ◌∙◌}
 use native.Mathlib.Omega.{arith}
-use lib.Dec.{eqb}
 use lib.ListN.{length, get_or}
 use borrow.Author.Tests.{le-leb, ne_eqb, leb-true, leb-false, eqb-false, not-true}
 use Rattle.ground.specs.Refusals.{refusal_number}
@@ -15,11 +14,12 @@ use Rattle.kinds.specs.declared.Kind.{Kind}
 use Rattle.kinds.specs.declared.Kind.TheVariants.{Pod, BassPod}
 use Rattle.kinds.specs.Kinds.{size_of}
 use Rattle.controls.specs.declared.Row.{Row}
-use Rattle.std.specs.Prelude.{Ok, Err}
+use Rattle.std.specs.Prelude.{Option, None, Some, is_none, Ok, Err}
+use Rattle.controls.specs.declared.Effect.{Effect}
 use Rattle.ground.specs.declared.Refusal.{Refusal}
 use Rattle.ground.specs.declared.Refusal.TheVariants.{TooShort, NotListed, OutOfRange, NotSelected}
 use Rattle.controls.specs.Answers.{change_number}
-use Rattle.controls.specs.Table.{none, chorus, rotary, table, row_of, selections, effect_of, selected}
+use Rattle.controls.specs.Table.{chorus, rotary, table, row_of, selections, effect_of, selected}
 use Rattle.controls.specs.Refusals.{selected_test}
 use Rattle.controls.specs.Applying.{Changed, changed, unchanged, store_row, apply_tests, apply_of}
 use Rattle.controls.specs.Showing.{back_tests}
@@ -104,10 +104,16 @@ module _ (kind : Kind) (controller value : ℕ) (edit : List ℕ) where
 pub only_19_selects : (controller value : ℕ) (edit : List ℕ) → (controller ≡ 19 → ⊥) → get_or (apply_of Pod controller value edit).edit 46 0 ≡ get_or edit 46 0
 only_19_selects controller value edit other = only_its_bytes Pod controller value edit 46 (beside_46 controller other)
 
+-- what needs no effect is selected at any byte
+none_selected : (effect : Option Effect) (byte46 : ℕ) → is_none effect ≡ true → selected effect byte46 ≡ true
+unfolding selected
+none_selected None byte46 none = refl
+none_selected (Some effect) byte46 none = absurd (false≢true none)
+
 -- On a Bass POD byte 46 plays no part: every controller is selected, whatever stands there,
 pub bass-selected : (controller : ℕ) (edit : List ℕ) → (selected_test (row_of BassPod controller) edit).holds ≡ true
-unfolding table selected
-bass-selected controller edit = rw (row-found BassPod (λ _ r. eqb r.effect none) (λ _. refl) refl controller)
+unfolding table
+bass-selected controller edit = none_selected _ _ (row-found BassPod (λ _ r. is_none r.effect) (λ _. refl) refl controller)
 
 -- and applying never answers 19.
 pub bass_never_19 : (controller value : ℕ) (edit : List ℕ) → (apply_of BassPod controller value edit).answer ≡ Err NotSelected → ⊥

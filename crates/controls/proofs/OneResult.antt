@@ -6,13 +6,13 @@ use Rattle.ground.proofs.OneResult.{one}
 use Rattle.kinds.specs.declared.Kind.{Kind}
 use Rattle.controls.specs.declared.Row.{Row}
 use Rattle.ground.specs.declared.Refusal.{Refusal}
-use Rattle.std.specs.Prelude.{Result, ⊤}
-use Rattle.controls.specs.Table.{row_of}
+use Rattle.std.specs.Prelude.{Option, Result, ⊤}
+use Rattle.controls.specs.Table.{if_listed, row_of}
 use Rattle.controls.specs.Scaling.{scale_of}
 use Rattle.controls.specs.Applying.{Changed, changed, apply_of}
 use Rattle.controls.specs.Showing.{back_of}
 
-pub row_of-one : (kind : Kind) (controller : ℕ) (r s : Row) → r ≡ row_of kind controller → s ≡ row_of kind controller → r ≡ s
+pub row_of-one : (kind : Kind) (controller : ℕ) (r s : Option Row) → r ≡ if_listed (row_of kind controller) → s ≡ if_listed (row_of kind controller) → r ≡ s
 row_of-one kind controller r s = one
 
 pub scale_one : (kind : Kind) (controller value : ℕ) (r s : Result ℕ Refusal) → r ≡ scale_of kind controller value → s ≡ scale_of kind controller value → r ≡ s

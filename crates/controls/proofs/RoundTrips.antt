@@ -5,17 +5,16 @@ use mathlib.Core.List.{List}
 use mathlib.Core.Logic.{inl, ⊎_elim}
 use mathlib.Core.Path.{◌≡◌, refl, ap, ◌∙◌}
 use native.Mathlib.Omega.{arith}
-use lib.Dec.{eqb}
 use lib.ListN.{get_or}
 use Rattle.ground.specs.Lists.{all_at_most}
-use Rattle.ground.proofs.Tests.{by}
 use Rattle.ground.proofs.InOrder.{tested_passed, tested_cases, first-named}
 use Rattle.kinds.specs.declared.Kind.{Kind}
-use Rattle.std.specs.Prelude.{Result, Ok, Err}
+use Rattle.std.specs.Prelude.{Option, None, Some, Result, Ok, Err}
 use Rattle.ground.specs.declared.Refusal.{Refusal}
 use Rattle.ground.specs.declared.Refusal.TheVariants as refusals
 use Rattle.controls.specs.Formulas.{next_for}
-use Rattle.controls.specs.Table.{none, row_of, effect_of, selected}
+use Rattle.controls.specs.declared.Effect.{Effect}
+use Rattle.controls.specs.Table.{row_of, selected}
 use Rattle.controls.specs.Fields.{number_in}
 use Rattle.controls.specs.Applying.{changed, store_row, apply_of}
 use Rattle.controls.specs.Showing.{shown_of, back_tests, back_of}
@@ -95,9 +94,12 @@ module _ (kind : Kind) (controller value : ℕ) (edit : List ℕ) (o : Allowed k
       record {
         long = rw (length-kept kind controller value edit) o.long;
         listed = o.listed;
-        chosen = by (λ x. x ≡ true) (eqb r.effect none) true (eqb r.effect (effect_of (get_or after 46 0))) (λ _. refl)
-            (λ t. rw (only_its_bytes kind controller value edit 46 (inl (shared_beyond kind controller t))) (rw t at o.chosen));
+        chosen = still r.effect refl o.chosen;
       }
+    where
+      still : (effect : Option Effect) → (row_of kind controller).effect ≡ effect → selected effect (get_or edit 46 0) ≡ true → selected effect (get_or after 46 0) ≡ true
+      still None is chosen = refl
+      still (Some effect) is chosen = rw (only_its_bytes kind controller value edit 46 (inl (shared_beyond kind controller effect is))) chosen
 
   -- Applied, then shown back, gives the smallest value with the same stored number.
   pub applied-shown : (w : ℕ) × (back_of kind controller (apply_of kind controller value edit).edit ≡ Ok w)

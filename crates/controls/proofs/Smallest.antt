@@ -11,11 +11,9 @@ use Rattle.controls.specs.declared.Row.{Row}
 use Rattle.std.specs.Prelude.{Result, Ok, Err}
 use Rattle.ground.specs.declared.Refusal.{Refusal}
 use Rattle.ground.specs.declared.Refusal.TheVariants as refusals
-use Rattle.controls.specs.Formulas.{m_upper, m_lower, number_for, next_for}
-use Rattle.controls.specs.Showing.{smallest, shown_of}
-use Rattle.controls.specs.Private.{divisor_of}
+use Rattle.controls.specs.Formulas.{number_for, next_for}
+use Rattle.controls.specs.Showing.{smallest}
 use Rattle.controls.specs.Meaning.{Gives, Smallest, NoneGives}
-use Rattle.controls.proofs.Columns.{divides}
 
 -- of n values that all give other numbers none is shown
 pub passed : (r : Row) (stored n m v : ℕ) → ((u : ℕ) → v ≤ u → u < v + n → number_for r u ≡ stored → ⊥) → smallest r stored (n + m) v ≡ smallest r stored m (v + n)
@@ -29,20 +27,6 @@ passed r stored (suc n) m v none =
 -- where none of count values gives the number, none is shown
 pub none-shown : (r : Row) (stored count v : ℕ) → ((u : ℕ) → v ≤ u → u < v + count → number_for r u ≡ stored → ⊥) → smallest r stored count v ≡ Err refusals.NoneGives
 none-shown r stored count v none = let all : count + 0 ≡ count = omega arith in rw all at (passed r stored count 0 v none)
-
--- the first n values are enough, if one of them gives the number wherever one of the m behind them does
-pub enough : (r : Row) (stored n m v : ℕ)
-    → ((u : ℕ) → v + n ≤ u → u < v + (n + m) → number_for r u ≡ stored → (w : ℕ) × (v ≤ w) × (w < v + n) × (number_for r w ≡ stored))
-    → smallest r stored (n + m) v ≡ smallest r stored n v
-enough r stored zero m v sooner = let all : 0 + m ≡ m = omega arith in rw all (none-shown r stored m v (λ u l h e. let w = sooner u (omega arith) (omega arith) e in omega arith))
-enough r stored (suc n) m v sooner =
-    let more : suc n + m ≡ suc (n + m) = omega arith in
-    rw more (by (λ (x : Result ℕ Refusal). x ≡ smallest r stored (suc n) v) (eqb (number_for r v) stored) _ _
-    (λ t. rw t)
-    (λ t. rw t (enough r stored n m (v + 1) (λ u l h e.
-    let s = sooner u (omega arith) (omega arith) e in
-    let later : s.0 ≡ v → ⊥ = λ is. eqb-false _ _ t (rw is at s.3) in
-    (s.0, omega arith, omega arith, s.3)))))
 
 -- where the number is a quotient, the smallest value is the divisor that many times, if it is one of the values
 module _ (r : Row) (d : ℕ) (quotient : (v : ℕ) → number_for r v ≡ v / d) (some : 1 ≤ d) (stored : ℕ) where
@@ -58,11 +42,6 @@ module _ (r : Row) (d : ℕ) (quotient : (v : ℕ) → number_for r v ≡ v / d)
 
   pub multiple-refused : (highest : ℕ) → highest < stored * d → smallest r stored (highest + 1) 0 ≡ Err refusals.NoneGives
   multiple-refused highest h = none-shown r stored (highest + 1) 0 (λ u _ l. below u (omega arith))
-
--- and no formula of m divides
-pub divided_shown : (r : Row) (stored : ℕ) → 1 ≤ divisor_of r.formula → smallest r stored (r.highest + 1) 0 ≡ shown_of r stored
-unfolding shown_of divisor_of
-divided_shown r stored h = rw (divides r.formula m_upper h refl, divides r.formula m_lower h refl)
 
 -- rows with the same numbers show the same
 pub same_shown : (r s : Row) (stored count v : ℕ) → ((u : ℕ) → u < v + count → number_for r u ≡ number_for s u) → smallest r stored count v ≡ smallest s stored count v

@@ -5,7 +5,9 @@ use Rattle.ground.specs.declared.Refusal.TheVariants.{NoneGives}
 use Rattle.ground.specs.Tests.{Test, tested}
 use Rattle.kinds.specs.declared.Kind.{Kind}
 use Rattle.controls.specs.declared.Row.{Row}
-use Rattle.controls.specs.Formulas.{m_upper, m_lower, number_for, m_of}
+use Rattle.controls.specs.declared.Formula.{Formula}
+use Rattle.controls.specs.declared.Formula.TheVariants.{MUpper, MLower}
+use Rattle.controls.specs.Formulas.{number_for, m_of}
 use Rattle.controls.specs.Table.{row_of}
 use Rattle.controls.specs.Fields.{number_in}
 use Rattle.controls.specs.Refusals.{edit_test, listed_test, selected_test}
@@ -19,11 +21,13 @@ smallest r stored (suc count) v = cond (eqb (number_for r v) stored) (Ok v) (sma
 abbrev pub seven_bits : ℕ → ℕ → Result ℕ Refusal
 seven_bits stored bits = cond (eqb stored (6 * m_of stored)) (Ok bits) (Err NoneGives)
 
+abbrev pub shown_by : Formula → Row → ℕ → Result ℕ Refusal
+shown_by MUpper r stored = seven_bits stored (m_of stored / 128)
+shown_by MLower r stored = seven_bits stored (m_of stored % 128)
+shown_by formula r stored = smallest r stored (r.highest + 1) 0
+
 unfoldable pub shown_of : Row → ℕ → Result ℕ Refusal
-shown_of r stored =
-    cond (eqb r.formula m_upper) (seven_bits stored (m_of stored / 128))
-    (cond (eqb r.formula m_lower) (seven_bits stored (m_of stored % 128))
-    (smallest r stored (r.highest + 1) 0))
+shown_of r stored = shown_by r.formula r stored
 
 -- "Tests: 30, 17, 19, 40." The last is what `shown_of` answers where no value gives the number
 abbrev pub back_tests : Kind → Row → List ℕ → List (Test Refusal)

@@ -73,7 +73,7 @@ unfolding scale_of reading_number
 scaled_apart kind controller value =
     let r = row_of kind controller in
     tested_cases (λ (x : Result ℕ Refusal). Apart x (reading_number x)) (scale_tests r value) Err (Ok (number_for r value))
-    (λ all. (refl, number_low kind controller value (leb-true value r.highest all.1.1.1.0)))
+    (λ all. (refl, number_low kind controller value (leb-true value r.highest all.1.1.0)))
     (λ why _. refl)
 
 pub scale_apart : (kind_number controller value : ℕ) → Apart (scale_call kind_number controller value) (scale_number kind_number controller value)

@@ -1,41 +1,24 @@
--- The tests are those of `carry_of`, in its order.
-use native.Mathlib.Omega.{arith}
-use Rattle.ground.proofs.Tests.{tests}
-use borrow.Author.Tests.{le-leb}
-use Rattle.carrying.specs.Carrying.{carry_of}
-use Rattle.carrying.proofs.Understands.{judged_fits}
+-- What the judge said of the body, and the length of the identity reply.
+use mathlib.Core.Path.{refl, sym, ap, ◌∙◌}
+use Rattle.std.specs.Prelude.{Ok}
+use Rattle.programs.specs.Lending.{content}
+use Rattle.carrying.specs.Carrying.{order_does}
+use Rattle.carrying.proofs.Parts.{carry_long}
+use Rattle.carrying.proofs.Understands.{judged_send, judged_store}
+use Rattle.carrying.proofs.Writing.{identity-length}
 use Rattle.carrying.proofs.carry_out.Goals as goal
 
-pub returns-then-memory-memory_size : goal.returns-then-memory-memory_size
-unfolding carry_of
-returns-then-memory-memory_size c =
-    let short = rw c.memory_size.ensures at c.if-memory-memory_size.true in
-    search (tests, short, c.refused.ensures)
+pub answer-requires-clause-there : goal.answer-requires-clause-there
+answer-requires-clause-there c = judged_send _ _ _ _ (sym c.judge.ensures ∙ c.in_ok-cc.was ∙ ap Ok c.in-Send.is)
 
-pub returns-then-marks-lt-MARKS : goal.returns-then-marks-lt-MARKS
-unfolding carry_of
-returns-then-marks-lt-MARKS c =
-    let holds = rw c.memory_size.ensures at c.if-memory-memory_size.false in
-    search (tests, holds, c.refused-then-marks-lt-MARKS.ensures)
+pub store-requires : goal.store-requires
+store-requires c = judged_store _ _ _ _ (sym c.judge.ensures ∙ c.in_ok-cc.was ∙ ap Ok c.in-Store.is)
 
-pub returns-then-reply-longest : goal.returns-then-reply-longest
-unfolding carry_of
-returns-then-reply-longest c =
-    let holds = rw c.memory_size.ensures at c.if-memory-memory_size.false in
-    let short = rw c.longest.ensures at c.if-reply-longest.true in
-    search (tests, holds, short, c.refused-then-reply-longest.ensures)
-
-pub act-requires : goal.act-requires
-unfolding carry_of
-act-requires c =
+pub returns-in-Identify-clause-all_after : goal.returns-in-Identify-clause-all_after
+unfolding order_does
+returns-in-Identify-clause-all_after c =
+    let a = c.args in
+    let judged = sym c.judge.ensures ∙ c.in_ok-cc.was ∙ ap Ok c.in-Identify.is in
+    let h = a.held.now in
     let long = rw c.longest.ensures at c.if-reply-longest.false in
-    let holds = rw c.memory_size.ensures at c.if-memory-memory_size.false in
-    record { holds = (omega arith, omega arith); fits = rw c.judge-order.ensures (judged_fits _ _ _) }
-
-pub returns : goal.returns
-unfolding carry_of
-returns c =
-    let long = rw c.longest.ensures at c.if-reply-longest.false in
-    let marked = c.if-marks-lt-MARKS.false in
-    let holds = rw c.memory_size.ensures at c.if-memory-memory_size.false in
-    rw (le-leb _ _ holds, le-leb _ _ marked, le-leb _ _ long, ← c.judge-order.ensures) c.act.ensures
+    rw (carry_long h.kind a.settings a.player a.body.now (content h) a.reply.now h.whole h.marked long, judged, c.identify.ensures, ← identity-length h.kind a.settings c.in-Identify.cc) refl
