@@ -18,7 +18,7 @@ use kinds::Kind;
 use programs::{Held, MARKS, Player};
 use sysex::{Answer, Answered, Order, Settings};
 
-// Whether memory, marks and a reply buffer are as long as the kind asks: whoever is lent them asks before it holds them.
+// Whether memory, marks and a reply buffer are as long as the kind asks.
 pub fn are_lent(kind: Kind, memory: &[u8], marks: &[u8], reply: &[u8]) -> Result<(), Refusal>
     ensures tests { result ≡ tested (carry_tests kind (held_of memory.now marks.now) reply.now) Err (Ok tt) }
     ensures lent { IfOk result (λ _. (memory_size kind ≤ length memory.now) × ((mark_count ≤ length marks.now) × (longest kind ≤ length reply.now))) }
@@ -33,8 +33,24 @@ pub fn are_lent(kind: Kind, memory: &[u8], marks: &[u8], reply: &[u8]) -> Result
     }
 }
 
-// Does what a player's body asks for.
+// Does what a player's body asks for, where these buffers are lent.
 pub fn carry_out(
+    body: &[u8],
+    player: Player,
+    kind: Kind,
+    settings: Settings,
+    memory: &mut [u8],
+    marks: &mut [u8],
+    reply: &mut [u8],
+) -> Answered
+    ensures { left result (held_of memory.new marks.new) reply.new ≡ carry_of kind settings player body.now (held_of memory.old marks.old) reply.old }
+{
+    are_lent(kind, memory, marks, reply)?;
+    carry(body, player, settings, &mut Held { kind, memory, marks }, reply)
+}
+
+// The same where what the box holds is known to be whole.
+pub fn carry(
     body: &[u8],
     player: Player,
     settings: Settings,

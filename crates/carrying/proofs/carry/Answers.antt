@@ -6,7 +6,7 @@ use Rattle.carrying.specs.Carrying.{order_does}
 use Rattle.carrying.proofs.Parts.{carry_long}
 use Rattle.carrying.proofs.Understands.{judged_send, judged_store}
 use Rattle.carrying.proofs.Writing.{identity-length}
-use Rattle.carrying.proofs.carry_out.Goals as goal
+use Rattle.carrying.proofs.carry.Goals as goal
 
 pub answer-requires-clause-there : goal.answer-requires-clause-there
 answer-requires-clause-there c = judged_send _ _ _ _ (sym c.judge.ensures ∙ c.in_ok-cc.was ∙ ap Ok c.in-Send.is)
