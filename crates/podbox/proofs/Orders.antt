@@ -1,9 +1,9 @@
 -- What a message that is handed over whole asks for, step by step: its length, its frame, its body; and that its first bytes say it.
 use Prim.Native.Nat.{ℕ, ◌<◌}
 use mathlib.Core.Bool.{Bool, true, false, cond, not, ◌&&◌}
-use mathlib.Core.List.{List, [], ◌∷◌}
+use mathlib.Core.List.{List, ◌∷◌}
 use mathlib.Core.Path.{◌≡◌, refl, ap, ◌∙◌}
-use Rattle.std.specs.Prelude.{Result, Ok, Err}
+use Rattle.std.specs.Prelude.{Result, Err}
 use lib.Dec.{leb, ltb}
 use native.Mathlib.Omega.{arith}
 use lib.ListN.{length, take, length-take}
@@ -12,24 +12,19 @@ use borrow.Author.Tests.{leb-true, leb-false, le-ltb, lt-ltb}
 use Rattle.ground.specs.declared.Refusal.TheVariants as refusal
 use Rattle.ground.specs.Tests.{test}
 use Rattle.kinds.specs.declared.Kind.{Kind}
-use Rattle.kinds.specs.Kinds.{device_of, kind_from, kind_of, kind_test}
+use Rattle.kinds.specs.Kinds.{device_of}
 use Rattle.programs.specs.declared.Player.{Player}
-use Rattle.programs.specs.Memory.{player_from, player_of, player_test}
 use Rattle.programs.specs.Held.{Held}
 use Rattle.sockets.specs.Framer.{SysEx}
-use Rattle.sockets.specs.Promise.{direct_of}
 use Rattle.sysex.specs.declared.Settings.{Settings}
 use Rattle.sysex.specs.declared.Order.{Order}
 use Rattle.sysex.specs.declared.Check.{Check}
 use Rattle.sysex.specs.declared.Check.TheVariants.{TooLong, Ours}
 use Rattle.sysex.specs.Forms.{longest}
 use Rattle.sysex.specs.Judging.{judged_by, has_form, further_tests, body_order, judge_of}
-use Rattle.carrying.specs.Carrying.{order_does, refusing, carry_tests, carry_of}
+use Rattle.carrying.specs.Carrying.{order_does, refusing}
 use Rattle.podbox.specs.Messages.{message_does}
 use Rattle.podbox.specs.Settings.{fresh_settings}
-use Rattle.podbox.specs.Box.{settings_test, marked_test, whole_of}
-use Rattle.podbox.specs.Private.{passes, body_in}
-use Rattle.podbox.proofs.Taking.{all_held, sender}
 use Rattle.podbox.specs.Whole.{is_framed, body_of, message_order, handed_does, reason_of}
 
 -- at most so many is not over so many
@@ -66,33 +61,6 @@ module _ (kind : Kind) (settings : Settings) (message : List ℕ) where
       steps true framed = refl
       steps false true = refl
       steps false false = refl
-
--- Behind its length and its frame a message asks for what its body asks.
-pub order_taken : (kind : Kind) (settings : Settings) (message body : List ℕ) → Ok body ≡ body_in kind message
-    → (body ≡ body_of message) × (message_order kind settings message ≡ judge_of kind settings body)
-unfolding body_in message_order judge_of
-order_taken kind settings message body e =
-    let ok = all_held (test (TooLong (longest kind)) (leb (length message) (longest kind)) ∷ test (Ours (device_of kind)) (is_framed message) ∷ []) (body_of message) body e in
-    (ok.1, rw (ok.0.0, ok.0.1.0, ok.1))
-
--- Behind its tests a whole message is its body, carried out.
-pub whole_taken : (kind_number : ℕ) (settings : Settings) (player_number : ℕ) (message : List ℕ) (held : Held) (reply : List ℕ) (kind : Kind) (player : Player) (body : List ℕ)
-    → Ok kind ≡ kind_from kind_number
-    → Ok tt ≡ passes (carry_tests kind held reply)
-    → Ok player ≡ player_from player_number
-    → Ok tt ≡ passes (settings_test settings ∷ [])
-    → Ok tt ≡ passes (marked_test held ∷ [])
-    → Ok body ≡ body_in kind message
-    → whole_of kind_number settings player_number message held reply ≡ carry_of kind settings player body held reply
-unfolding kind_from player_from direct_of carry_of
-whole_taken kind_number settings player_number message held reply kind player body k lent p valid marked b =
-    let from = all_held (kind_test kind_number ∷ []) (kind_of kind_number) kind k in
-    let of = all_held (player_test player_number ∷ []) (player_of player_number) player p in
-    let long = (all_held (carry_tests kind held reply) tt tt lent).0 in
-    let is = all_held (settings_test settings ∷ []) tt tt valid in
-    let flags = all_held (marked_test held ∷ []) tt tt marked in
-    let order = order_taken kind settings message body b in
-    rw (from.0.0, ← from.1, long.0, long.1.0, long.1.1.0, of.0.0, is.0.0, flags.0.0, sender player_number, ← of.1, order.1, ← order.0)
 
 -- The first bytes say it: one byte more than the longest message is enough to judge by.
 pub first-bytes : (kind : Kind) (n : ℕ) → longest kind < n → (message : List ℕ) → reason_of kind (take n message) ≡ reason_of kind message

@@ -46,10 +46,7 @@ fn is_controller(status: u8) -> bool
 fn is_program_change(status: u8, number: u8, kind: Kind) -> bool
     ensures { result ≡ is_program_change kind status number }
 {
-    kind.takes_program_change()
-        && status / 16 == 0xC
-        && 1 <= number
-        && number <= PROGRAMS as u8
+    kind.takes_program_change() && status / 16 == 0xC && 1 <= number && number <= PROGRAMS as u8
 }
 
 // A list of moves is lent no marks, so this asks for memory alone, and for its length.

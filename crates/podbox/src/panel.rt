@@ -8,11 +8,11 @@ ghost use Rattle.podbox.specs.Private.{bytes_of, body_in};
 
 use crate::settings;
 use kinds::Kind;
-use programs::{Held, Player};
+use programs::Player;
 use sysex::{Answered, Check, Settings};
 
 // 32 for the kind, 30, 31 and 32, 10 and 11, then what its body asks for.
-#[tactic(auto, unfolding(sockets::specs::Promise::direct_of, kinds::specs::Kinds::kind_from, programs::specs::Memory::player_from, carrying::specs::Carrying::order_does, crate::specs::Whole::message_order, crate::specs::Private::body_in), using(ground::proofs::Tests::tests))]
+#[tactic(auto, unfolding(sockets::specs::Promise::direct_of, kinds::specs::Kinds::kind_from, programs::specs::Memory::player_from, sysex::specs::Judging::judge_of, carrying::specs::Carrying::order_does, carrying::specs::Carrying::carry_of, crate::specs::Whole::message_order, crate::specs::Private::body_in), using(ground::proofs::Tests::tests, crate::proofs::Taking::sender))]
 pub fn whole_message(
     message: &[u8],
     player: u32,
@@ -30,8 +30,7 @@ pub fn whole_message(
     settings::are_valid(settings)?;
     settings::are_marks(marks)?;
     let body = body(message, kind)?;
-    let held = &mut Held { kind, memory, marks };
-    carrying::carry_out(body, player, settings, held, reply)
+    carrying::carry_out(body, player, kind, settings, memory, marks, reply)
 }
 
 // The message without its F7, where it is no longer than the longest and is framed.

@@ -35,13 +35,23 @@ pub fn take_byte(
     let kind = Kind::try_from(kind)?;
     are_lent(kind, memory.len(), marks.len(), receive.len(), reply.len())?;
     let player = Player::try_from(socket)?;
-    let held = &mut Held { kind, memory, marks };
+    let held = &mut Held {
+        kind,
+        memory,
+        marks,
+    };
     take_ready(receiver, player, byte, settings, held, receive, reply)
 }
 
 // 30 where a buffer is shorter than the kind asks for. A box that may be set as any kind lends the largest, and these are
 // asked for first: their lengths are constants.
-fn are_lent(kind: Kind, memory: usize, marks: usize, receive: usize, reply: usize) -> Result<(), Refusal>
+fn are_lent(
+    kind: Kind,
+    memory: usize,
+    marks: usize,
+    receive: usize,
+    reply: usize,
+) -> Result<(), Refusal>
     ensures { result ≡ passes (length_tests kind memory marks receive reply) }
 {
     if marks < MARKS {
@@ -131,7 +141,7 @@ fn act(
         Event::TooLong => Err(Refusal::TooLong),
         Event::SysEx(count) => {
             let body = &receive[..count as usize];
-            carrying::carry_out(body, player, settings, held, reply)
+            carrying::carry(body, player, settings, held, reply)
         }
         Event::Channel(status, first, second) => {
             channel::channel(status, first, second, player, settings, held)
