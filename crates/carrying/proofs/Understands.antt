@@ -17,19 +17,21 @@ use Rattle.halves.specs.HalfBytes.{split, join}
 use Rattle.halves.proofs.Laws.{length-split, length-join, join-bytes, split_halves, split-join}
 use Rattle.sysex.specs.declared.Settings.{Settings}
 use Rattle.sysex.specs.declared.Order.{Order}
-use Rattle.sysex.specs.declared.Order.TheVariants.{Refused}
+use Rattle.sysex.specs.declared.Order.TheVariants.{Send, Store}
+use Rattle.sysex.specs.declared.Check.{Check}
+use Rattle.std.specs.Prelude.{Result, Ok, Err}
+use Rattle.std.proofs.lemmas.Bool.{not-false}
 use Rattle.kinds.specs.declared.Kind.{Kind}
 use Rattle.kinds.specs.Kinds.{size_of, has_spare, header_of}
 use Rattle.programs.specs.declared.Target.{Target}
 use Rattle.programs.specs.declared.Target.TheVariants.{One, Edit, All}
 use Rattle.programs.specs.Held.{count_for, slots_for, sent_size, sent_for}
 use Rattle.programs.proofs.Slots.{sent_slots, long_all, short_fewer}
-use Rattle.sysex.specs.Forms.{begins, opcode_of, type_of, program_of, request, program, edit, version_place, data_place, data_count, body_length, shortest}
+use Rattle.sysex.specs.Forms.{begins, opcode_of, type_of, program_of, request, program, edit, all, version_place, data_place, data_count, body_length, shortest}
 use Rattle.sysex.specs.Forms.{type_for, pp_for, request_body, dump_body, is_long, identity_body, is_identity, is_our_channel}
-use Rattle.sysex.specs.Judging.{has_form, has_program, further_tests, tests_of, order_of, form_order, body_order, judge_of}
+use Rattle.sysex.specs.Judging.{has_form, has_program, further_tests, tests_of, target_of, order_of, form_order, body_order, judge_of}
 use Rattle.sysex.specs.Formats.{There, IsDump, IsRequest, IsIdentity, Meant, identity, asked, dumped, unsaid}
 use Rattle.sysex.proofs.Judged.{Right, right}
-use Rattle.carrying.specs.Private.{HasData, Fits}
 
 -- a list that begins so is that beginning, and the rest
 pub begun : (start body : List ℕ) → begins start body ≡ true → body ≡ start ++ drop (length start) body
@@ -51,10 +53,6 @@ halves_sent kind long All = refl
 pub is_long_lem : (kind : Kind) (t : Target) (long : Bool) (body : List ℕ) → length body ≡ data_place (type_for t) + 2 * sent_for kind long t → is_long kind t body ≡ long
 is_long_lem kind t true body e = eq-eqb _ _ (e ∙ ap (λ (n : ℕ). data_place (type_for t) + 2 * n) (long_all kind t))
 is_long_lem kind t false body e = ne_eqb (length body) (data_place (type_for t) + 2 * count_for kind t) (λ h. omega (arith, short_fewer kind t))
-
-shortest_spare : (has : Bool) → not has ≡ false → has ≡ true
-shortest_spare true e = refl
-shortest_spare false e = sym e
 
 module _ (kind : Kind) (body : List ℕ) (r : Right kind body) where
   -- header, opcode, type, and what stands behind them
@@ -105,7 +103,7 @@ module _ (kind : Kind) (body : List ℕ) (r : Right kind body) where
       -- a dump is long or short, as its length says
       by_length : ((long : Bool) → (long ≡ false → has_spare kind ≡ true) → length body ≡ place + 2 * sent_for kind long t → IsDump kind t long bytes body)
           → IsDump kind t (is_long kind t body) bytes body
-      by_length made = ⊎_elim (go true (λ z. absurd (false≢true (sym z)))) (go (shortest kind) (shortest_spare (has_spare kind))) whole-dump
+      by_length made = ⊎_elim (go true (λ z. absurd (false≢true (sym z)))) (go (shortest kind) (not-false (has_spare kind))) whole-dump
         where
           go : (long : Bool) → (long ≡ false → has_spare kind ≡ true) → length body ≡ data_place (type_of body) + data_count kind long (type_of body) → IsDump kind t (is_long kind t body) bytes body
           go long spare w =
@@ -149,25 +147,31 @@ module _ (kind : Kind) (body : List ℕ) (r : Right kind body) where
         })
 
 module _ (kind : Kind) (settings : Settings) (body : List ℕ) where
-  abbrev Means : Order → Type 0
+  abbrev Means : Result Order Check → Type 0
   Means o = Meant kind settings body o
 
-  order-meant : Right kind body → Means (form_order body)
-  unfolding order_of
-  order-meant r =
-      let all_left : eqb (type_of body) program ≡ false → eqb (type_of body) edit ≡ false → type_of body ≡ 2 = λ t u.
-      let not_program = eqb-false (type_of body) program t in let not_edit = eqb-false (type_of body) edit u in let small = r.type in omega arith in
-      by Means (eqb (opcode_of body) request) _ _
-      (λ d. by Means (eqb (type_of body) program) _ _
-      (λ t. asked (One (program_of body)) (request-one kind body r d t))
-      (λ t. by Means (eqb (type_of body) edit) _ _
-      (λ u. asked Edit (request_plain kind body r d Edit (eqb-true _ _ u) refl refl tt))
-      (λ u. asked All (request_plain kind body r d All (all_left t u) refl refl tt))))
-      (λ d. by Means (eqb (type_of body) program) _ _
-      (λ t. dumped (One (program_of body)) (dump-one kind body r d t))
-      (λ t. by Means (eqb (type_of body) edit) _ _
-      (λ u. dumped Edit (dump_plain kind body r d Edit (eqb-true _ _ u) refl refl tt))
-      (λ u. dumped All (dump_plain kind body r d All (all_left t u) refl refl tt))))
+  module _ (r : Right kind body) where
+    -- whatever holds of one program, of the edit buffer and of all programs, where the type is theirs, holds of what the type names
+    named : (P : Target → Type 0) → (eqb (type_of body) program ≡ true → P (One (program_of body))) → (type_of body ≡ edit → P Edit) → (type_of body ≡ all → P All)
+        → P (target_of (type_of body) (program_of body))
+    named P one edits alls =
+        by P (eqb (type_of body) program) _ _ one
+        (λ t. by P (eqb (type_of body) edit) _ _
+        (λ u. edits (eqb-true _ _ u))
+        (λ u. let not_program = eqb-false (type_of body) program t in let not_edit = eqb-false (type_of body) edit u in let small = r.type in alls (omega arith)))
+
+    order-meant : Means (Ok (form_order body))
+    unfolding order_of
+    order-meant =
+        by (λ (o : Order). Means (Ok o)) (eqb (opcode_of body) request) _ _
+        (λ d. asked _ (named (λ (t : Target). IsRequest kind t body)
+        (request-one kind body r d)
+        (λ e. request_plain kind body r d Edit e refl refl tt)
+        (λ e. request_plain kind body r d All e refl refl tt)))
+        (λ d. dumped _ (named (λ (t : Target). IsDump kind t (is_long kind t body) (join (drop (data_place (type_for t)) body)) body)
+        (dump-one kind body r d)
+        (λ e. dump_plain kind body r d Edit e refl refl tt)
+        (λ e. dump_plain kind body r d All e refl refl tt)))
 
   identity-meant : is_identity body ≡ true → is_our_channel settings (get_or body 2 0) ≡ true → IsIdentity settings (get_or body 2 0) body
   unfolding is_identity
@@ -179,16 +183,16 @@ module _ (kind : Kind) (settings : Settings) (body : List ℕ) where
       let nothing : drop 5 body ≡ [] = drop_of_length-le body {i = 5} (omega arith) in
       record { low = leb-true _ _ q.0; ours = o; form = begun (identity_body cc) body q.1 ∙ (rw nothing) }
 
-  pub passed_meant : AllHold (tests_of kind settings body) → Means (body_order body)
+  pub passed_meant : AllHold (tests_of kind settings body) → Means (Ok (body_order body))
   unfolding has_form further_tests body_order
   passed_meant a =
-      by Means (is_identity body) _ _
+      by (λ (o : Order). Means (Ok o)) (is_identity body) _ _
       (λ i. let further = rw i at a.1 in identity (get_or body 2 0) (identity-meant i further.0))
       (λ i. let ours = rw i at a.0 in order-meant (right kind body ours (rw i at a.1)))
 
   pub meant : Means (judge_of kind settings body)
   unfolding judge_of
-  meant = tested_cases Means (tests_of kind settings body) Refused (body_order body) passed_meant (λ check _. unsaid check)
+  meant = tested_cases Means (tests_of kind settings body) Err (Ok (body_order body)) passed_meant (λ check _. unsaid check)
 
 -- a dump has its data behind its start
 pub data_behind : (kind : Kind) (t : Target) (bytes : List ℕ) → (length (dump_body kind t bytes) ≡ data_place (type_for t) + 2 * length bytes) × (drop (data_place (type_for t)) (dump_body kind t bytes) ≡ split bytes)
@@ -198,26 +202,14 @@ data_behind kind All bytes = (omega (arith, length-split bytes), refl)
 
 -- what an order needs of its body to be carried out
 module _ (kind : Kind) (settings : Settings) (body : List ℕ) where
-  has_data : (t : Target) (long : Bool) (bytes : List ℕ) → IsDump kind t long bytes body → HasData kind (type_for t) (slots_for t) body
-  has_data t long bytes x =
-      let behind = data_behind kind t bytes in
-      let whole : length body ≡ data_place (type_for t) + 2 * (slots_for t * sent_size kind long) = rw x.form (omega (arith, behind.0, x.count, sent_slots kind long t)) in
-      (go long whole, rw (x.form, behind.1) (split_halves bytes x.whole-bytes))
-    where
-      go : (long : Bool) → length body ≡ data_place (type_for t) + 2 * (slots_for t * sent_size kind long)
-          → (length body ≡ data_place (type_for t) + 2 * (slots_for t * size_of kind)) ⊎ (length body ≡ data_place (type_for t) + 2 * (slots_for t * (size_of kind - 1)))
-      go true e = inl e
-      go false e = inr e
+  there : (t : Target) → Meant kind settings body (Ok (Send t)) → There t
+  there t (asked _ q) = q.there
 
-  fits : (o : Order) → Meant kind settings body o → Fits kind o body
-  fits o (identity channel i) = tt
-  fits o (asked (One p) q) = q.there
-  fits o (asked Edit q) = tt
-  fits o (asked All q) = tt
-  fits o (dumped (One p) d) = (d.there, has_data (One p) _ _ d)
-  fits o (dumped Edit d) = has_data Edit _ _ d
-  fits o (dumped All d) = has_data All _ _ d
-  fits o (unsaid check) = tt
+  dump : (t : Target) → Meant kind settings body (Ok (Store t)) → IsDump kind t (is_long kind t body) (join (drop (data_place (type_for t)) body)) body
+  dump t (dumped _ d) = d
 
-  pub judged_fits : Fits kind (judge_of kind settings body) body
-  judged_fits = fits (judge_of kind settings body) (meant kind settings body)
+  pub judged_send : (t : Target) → judge_of kind settings body ≡ Ok (Send t) → There t
+  judged_send t e = there t (subst (Meant kind settings body) e (meant kind settings body))
+
+  pub judged_store : (t : Target) → judge_of kind settings body ≡ Ok (Store t) → IsDump kind t (is_long kind t body) (join (drop (data_place (type_for t)) body)) body
+  judged_store t e = dump t (subst (Meant kind settings body) e (meant kind settings body))

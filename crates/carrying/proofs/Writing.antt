@@ -1,28 +1,30 @@
--- Laws of a buffer that is written from the front, part after part.
-use Prim.Native.Nat.{ℕ, ◌+◌, ◌-◌, ◌*◌, ◌<◌}
+-- Laws of a reply buffer that is written from the front, part after part.
+use Prim.Native.Nat.{ℕ, ◌+◌, ◌-◌, ◌*◌, ◌/◌, ◌≤◌}
+use mathlib.Core.Bool.{Bool, true, false, cond}
 use mathlib.Core.List.{List, [], ◌∷◌, ◌++◌, append_assoc}
 use mathlib.Core.Path.{◌≡◌, refl, sym, ap, ◌∙◌}
-use native.Mathlib.Nat.{add-sub_cancel_left}
 use native.Mathlib.Omega.{arith}
 use lib.ListN.{length, take, drop, get_or, set, length-append}
 use lib.Seq.{take_at, drop_at, drop-drop}
 use Rattle.ground.specs.Lists.{written}
-use Rattle.ground.proofs.Lists.{drop-one, one_written}
 use Rattle.halves.specs.HalfBytes.{split}
 use Rattle.halves.proofs.Laws.{length-split}
 use Rattle.kinds.specs.declared.Kind.{Kind}
-use Rattle.kinds.specs.Kinds.{size_of, header_of, identity_of}
-use Rattle.kinds.proofs.AnyKind.{size-bounds, identity-bytes}
-use Rattle.programs.specs.Memory.{put_part}
+use Rattle.kinds.specs.Kinds.{size_of, identity_of}
+use Rattle.kinds.proofs.AnyKind.{identity-bytes, size-bounds}
+use Rattle.programs.specs.declared.Player.{Player}
+use Rattle.programs.specs.declared.Target.{Target}
+use Rattle.programs.specs.declared.Target.TheVariants.{One, Edit, All}
+use Rattle.programs.specs.Memory.{memory_size, put_part}
 use Rattle.programs.specs.Spares.{without_spares}
+use Rattle.programs.specs.Held.{Held, place_for, count_for, slots_for, bytes_in, goes_long, bytes_out}
+use Rattle.programs.proofs.Parts.{put-set}
+use Rattle.programs.proofs.Slots.{out_most}
 use Rattle.programs.proofs.Spares.{without_length}
 use Rattle.sysex.specs.declared.Settings.{Settings}
-use Rattle.sysex.specs.Forms.{dump, version, dump_start, identity_reply, ended}
-
--- what is copied, and then what is left to copy, is the whole
-pub copy_turn : (to from : List ℕ) (i : ℕ) → i < length to → i < length from → take i to ++ drop i from ≡ from
-    → take (i + 1) (set to i (get_or from i 0)) ++ drop (i + 1) from ≡ from
-copy_turn to from i h l inv = one_written to i _ _ h ∙ (rw (drop-one from i l) at inv)
+use Rattle.sysex.specs.Forms.{type_for, pp_for, data_place, longest, dump_start, dump_body, identity_reply, ended}
+use Rattle.sysex.specs.Formats.{There}
+use Rattle.carrying.proofs.Parts.{place_inside, dump_room, lent, lent_is, lent_slots, lent_whole}
 
 -- a part that is written behind what is written
 pub written_more : (n k : ℕ) (bytes more reply : List ℕ) → length bytes ≡ n → length more ≡ k
@@ -31,54 +33,53 @@ written_more n k bytes more reply e f =
     let behind : drop k (drop n reply) ≡ drop (length (bytes ++ more)) reply = rw (length-append bytes more, e, f) (drop-drop k n reply) in
     rw (take_at bytes (drop (length bytes) reply) n e, drop_at bytes (drop (length bytes) reply) n e, e, behind, append_assoc bytes more (drop (length (bytes ++ more)) reply))
 
--- a dump up to its data, written in four parts
-pub begun : (kind : Kind) (type : ℕ) (pp r₀ r₁ r₂ r₃ r₄ : List ℕ) → r₁ ≡ put_part 0 5 (header_of kind) r₀ → r₂ ≡ put_part 5 2 (dump ∷ type ∷ []) r₁
-    → r₃ ≡ put_part 7 (length pp) pp r₂ → r₄ ≡ put_part (7 + length pp) 1 (version ∷ []) r₃
-    → r₄ ≡ written (dump_start kind type pp) r₀
-begun kind type pp r₀ r₁ r₂ r₃ r₄ e₁ e₂ e₃ e₄ =
-    let opened = header_of kind ++ (dump ∷ type ∷ []) in
-    let s₂ : r₂ ≡ written opened r₀ = e₂ ∙ (rw e₁ (written_more 5 2 (header_of kind) (dump ∷ type ∷ []) r₀ refl refl)) in
-    let s₃ : r₃ ≡ written (opened ++ pp) r₀ = e₃ ∙ (rw s₂ (written_more 7 (length pp) opened pp r₀ refl refl)) in
-    e₄ ∙ (rw s₃ (written_more (7 + length pp) 1 (opened ++ pp) (version ∷ []) r₀ (omega arith) refl))
-
 -- a dump: up to its data, the data, the last byte
-module _ (kind : Kind) (type : ℕ) (pp part : List ℕ) where
-  abbrev body : List ℕ
-  body = dump_start kind type pp ++ split part
+module _ (kind : Kind) (t : Target) (out : List ℕ) where
+  start_length : (t : Target) → length (dump_start kind (type_for t) (pp_for t)) ≡ data_place (type_for t)
+  start_length (One p) = refl
+  start_length Edit = refl
+  start_length All = refl
 
-  start_length : length (dump_start kind type pp) ≡ 8 + length pp
-  start_length = omega (arith, length-append pp (version ∷ []))
+  body_length : length (dump_body kind t out) ≡ data_place (type_for t) + 2 * length out
+  body_length = omega (arith, length-append (dump_start kind (type_for t) (pp_for t)) (split out), start_length t, length-split out)
 
-  body_length : length body ≡ 8 + length pp + 2 * length part
-  body_length = omega (arith, length-append (dump_start kind type pp) (split part), start_length, length-split part)
+  pub dump-length : length (ended (dump_body kind t out)) ≡ data_place (type_for t) + 2 * length out + 1
+  dump-length = omega (arith, length-append (dump_body kind t out) (0xF7 ∷ []), body_length)
 
-  pub dump-length : length (ended body) ≡ 8 + length pp + 2 * length part + 1
-  dump-length = omega (arith, length-append body (0xF7 ∷ []), body_length)
+  pub dumped : (place end : ℕ) (r₀ r₁ r₂ : List ℕ) → place ≡ data_place (type_for t) → end ≡ place + 2 * length out → end + 1 ≤ length r₂
+      → r₁ ≡ written (dump_start kind (type_for t) (pp_for t)) r₀
+      → r₂ ≡ put_part place (2 * length out) (split out) r₁ → set r₂ end 0xF7 ≡ written (ended (dump_body kind t out)) r₀
+  dumped place end r₀ r₁ r₂ p q room e₁ e₂ =
+      let s₂ : r₂ ≡ written (dump_body kind t out) r₀ =
+      e₂ ∙ (rw e₁ (written_more place (2 * length out) (dump_start kind (type_for t) (pp_for t)) (split out) r₀ (start_length t ∙ sym p) (length-split out))) in
+      put-set end 0xF7 r₂ (omega arith) ∙ (rw s₂ (written_more end 1 (dump_body kind t out) (0xF7 ∷ []) r₀ (omega (arith, body_length)) refl))
 
-  pub dumped : (place : ℕ) (r₀ r₁ r₂ r₃ : List ℕ) → place ≡ 8 + length pp → r₁ ≡ written (dump_start kind type pp) r₀
-      → r₂ ≡ put_part place (2 * length part) (split part) r₁ → r₃ ≡ put_part (place + 2 * length part) 1 (0xF7 ∷ []) r₂
-      → r₃ ≡ written (ended body) r₀
-  dumped place r₀ r₁ r₂ r₃ p e₁ e₂ e₃ =
-      let s₂ : r₂ ≡ written body r₀ =
-      e₂ ∙ (rw e₁ (written_more place (2 * length part) (dump_start kind type pp) (split part) r₀ (start_length ∙ sym p) (length-split part))) in
-      e₃ ∙ (rw s₂ (written_more (place + 2 * length part) 1 body (0xF7 ∷ []) r₀ (omega (arith, body_length)) refl))
+-- what goes out, of the part of memory that is lent
+module _ (kind : Kind) (player : Player) (t : Target) (held : Held) (place count : ℕ) (p : place ≡ place_for kind player t) (q : count ≡ count_for kind t)
+    (inside : place_for kind player t + count_for kind t ≤ length held.memory) where
+  abbrev part : List ℕ
+  part = lent kind player t held.memory place count p q inside
 
--- the same of a dump without spare bytes, and its length
-pub dumped-short : (kind : Kind) (type : ℕ) (pp part : List ℕ) (slots size place end : ℕ) (r₀ r₁ r₂ r₃ : List ℕ) → size ≡ size_of kind → length part ≡ slots * size_of kind
-    → place ≡ 8 + length pp → r₁ ≡ written (dump_start kind type pp) r₀ → end ≡ place + 2 * (slots * (size - 1))
-    → r₂ ≡ put_part place (2 * (slots * (size - 1))) (split (without_spares size slots part)) r₁ → r₃ ≡ put_part end 1 (0xF7 ∷ []) r₂
-    → (let whole = ended (dump_start kind type pp ++ split (without_spares (size_of kind) slots part)) in (end + 1 ≡ length whole) × (r₃ ≡ written whole r₀))
-dumped-short kind type pp part slots size place end r₀ r₁ r₂ r₃ s long p e₁ q e₂ e₃ =
-    let out = without_spares (size_of kind) slots part in
-    let count : 2 * (slots * (size - 1)) ≡ 2 * length out = rw s (ap (λ (n : ℕ). 2 * n) (sym (without_length (size_of kind) (size-bounds kind).0 slots part long))) in
-    let behind : end ≡ place + 2 * length out = q ∙ ap (λ (n : ℕ). place + n) count in (
-      omega (arith, dump-length kind type pp out),
-      dumped kind type pp out place r₀ r₁ r₂ r₃ p e₁ (e₂ ∙ (λ i. put_part place (count i) (split (without_spares (s i) slots part)) r₁)) (e₃ ∙ ap (λ (n : ℕ). put_part n 1 (0xF7 ∷ []) r₂) behind),
-    )
+  abbrev out : Bool → List ℕ
+  out long = cond long (bytes_in kind player t held) (without_spares (size_of kind) (slots_for t) (bytes_in kind player t held))
 
--- a part that was lent comes back in its place
-pub lent-put : (place n : ℕ) (x y reply : List ℕ) → x ≡ y → put_part place (place + n - place) x reply ≡ put_part place n y reply
-lent-put place n x y reply e = λ i. put_part place (add-sub_cancel_left place n i) (e i) reply
+  pub out_long : goes_long kind player t held ≡ true → part ≡ bytes_out kind player t held
+  out_long long = lent_is kind player t held.memory place count p q inside ∙ sym (ap out long)
+
+  pub out_short : goes_long kind player t held ≡ false → without_spares (size_of kind) (length part / size_of kind) part ≡ bytes_out kind player t held
+  out_short short =
+      (λ i. without_spares (size_of kind) (lent_slots kind player t held.memory place count p q inside i) (lent_is kind player t held.memory place count p q inside i)) ∙ sym (ap out short)
+
+  pub short_count : goes_long kind player t held ≡ false → length part / size_of kind * (size_of kind - 1) ≡ length (bytes_out kind player t held)
+  short_count short =
+      sym (without_length (size_of kind) (size-bounds kind).0 (length part / size_of kind) part (lent_whole kind player t held.memory place count p q inside)) ∙ ap length (out_short short)
+
+-- the dump that goes out has room in the longest message
+pub dump_fits : (kind : Kind) (player : Player) (t : Target) (held : Held) → There t → memory_size kind ≤ length held.memory
+    → data_place (type_for t) + 2 * length (bytes_out kind player t held) + 1 ≤ longest kind
+dump_fits kind player t held there whole =
+    let most = out_most kind player t held (omega (arith, place_inside kind player t there)) in
+    omega (arith, dump_room kind t)
 
 -- the identity reply, with the four bytes that the kind tells one by one
 pub identified : (kind : Kind) (settings : Settings) (channel : ℕ) (told : List ℕ) → told ≡ identity_of kind

@@ -1,13 +1,17 @@
 // Replies, written from the start of the reply buffer.
-ghost use Rattle.std.specs.Prelude.{◌≡◌, ◌++◌, ◌≤◌, ◌+◌, ◌*◌, length};
+ghost use Rattle.std.specs.Prelude.{◌≡◌, ◌≤◌, ◌<◌, ◌+◌, ◌*◌, ◌/◌, ◌-◌, length};
 ghost use Rattle.ground.specs.Lists.{written};
 ghost use Rattle.halves.specs.HalfBytes.{split};
 ghost use Rattle.kinds.specs.Kinds.{size_of};
-ghost use Rattle.programs.specs.Spares.{without_spares};
-ghost use Rattle.sysex.specs.Forms.{dump_start, identity_reply, ended};
+ghost use Rattle.programs.specs.Memory.{put_part};
+ghost use Rattle.programs.specs.Spares.{without_spares, all_set};
+ghost use Rattle.programs.specs.Held.{count_for, goes_long, bytes_out};
+ghost use Rattle.programs.specs.Lending.{content};
+ghost use Rattle.sysex.specs.Forms.{type_for, pp_for, data_place, longest, dump_start, dump_body, identity_reply, ended};
+ghost use Rattle.sysex.specs.Formats.{There};
 
-use crate::{bytes, short};
 use kinds::Kind;
+use programs::{Held, Player, Target};
 use sysex::Settings;
 
 // The identity reply is 17 bytes.
@@ -15,8 +19,8 @@ pub(crate) fn identify(cc: u8, kind: Kind, settings: Settings, reply: &mut [u8])
     requires { 17 ≤ length reply.old }
     ensures { reply.new ≡ written (identity_reply kind settings cc) reply.old }
 {
-    let told = kinds::identity(kind);
-    let identity = [
+    let [family0, family1, member0, member1] = kind.identity();
+    reply[..17].copy_from_slice(&[
         0xF0,
         0x7E,
         cc,
@@ -25,66 +29,105 @@ pub(crate) fn identify(cc: u8, kind: Kind, settings: Settings, reply: &mut [u8])
         0x00,
         0x01,
         0x0C,
-        told[0],
-        told[1],
-        told[2],
-        told[3],
+        family0,
+        family1,
+        member0,
+        member1,
         settings.revision0,
         settings.revision1,
         settings.revision2,
         settings.revision3,
         0xF7,
-    ];
-    bytes::write(&identity, reply, 0);
+    ]);
+}
+
+// Answers a request by the dump of what it names, in the length that its marks say. Returns its length.
+pub(crate) fn answer(target: Target, player: Player, held: &Held, reply: &mut [u8]) -> u16
+    requires there { There target }
+    requires room { longest held.now.kind ≤ length reply.old }
+    ensures value { result ≡ length (ended (dump_body held.now.kind target (bytes_out held.now.kind player target (content held.now)))) }
+    ensures reply_after { reply.new ≡ written (ended (dump_body held.now.kind target (bytes_out held.now.kind player target (content held.now)))) reply.old }
+{
+    let start = begin(target, held.kind, reply);
+    let end = put_data(target, player, held, start, reply);
+    reply[end] = 0xF7;
+    end as u16 + 1
 }
 
 // A dump up to its data: header, opcode, type, the program where there is one, version 0. Returns the data's place.
-fn begin(typed: u8, pp: &[u8], kind: Kind, reply: &mut [u8]) -> usize
-    requires pp_len_bound { length pp.now ≤ 1 }
-    requires in_bounds { 9 ≤ length reply.old }
-    ensures value { result ≡ 8 + length pp.now }
-    ensures reply_after { reply.new ≡ written (dump_start kind typed pp.now) reply.old }
+fn begin(target: Target, kind: Kind, reply: &mut [u8]) -> usize
+    requires { 9 ≤ length reply.old }
+    ensures value { result ≡ data_place (type_for target) }
+    ensures reply_after { reply.new ≡ written (dump_start kind (type_for target) (pp_for target)) reply.old }
 {
-    let header = kinds::header(kind);
-    bytes::write(&header, reply, 0);
-    bytes::write(&[sysex::DUMP, typed], reply, 5);
-    bytes::write(pp, reply, 7);
-    let version = 7 + pp.len();
-    bytes::write(&[sysex::VERSION], reply, version);
-    version + 1
+    reply[..5].copy_from_slice(&kind.header());
+    reply[5] = sysex::DUMP;
+    reply[6] = sysex::type_for(target);
+    match target {
+        Target::One(program) => {
+            reply[7] = program;
+            reply[8] = sysex::VERSION;
+            9
+        }
+        _ => {
+            reply[7] = sysex::VERSION;
+            8
+        }
+    }
 }
 
-// A dump of some bytes. Returns its length.
-pub(crate) fn send(typed: u8, pp: &[u8], part: &[u8], kind: Kind, reply: &mut [u8]) -> usize
-    requires pp_len_bound { length pp.now ≤ 1 }
-    requires pp_in_bounds { 2 * length part.now + (9 + length pp.now) ≤ length reply.old }
-    ensures value { result ≡ length (ended (dump_start kind typed pp.now ++ split part.now)) }
-    ensures reply_after { reply.new ≡ written (ended (dump_start kind typed pp.now ++ split part.now)) reply.old }
-{
-    let place = begin(typed, pp, kind, reply);
-    let end = place + 2 * part.len();
-    halves::split_into(part, &mut reply[place..end]);
-    bytes::write(&[0xF7], reply, end);
-    end + 1
-}
-
-// A dump of some programs without their spare bytes. Returns its length.
-pub(crate) fn send_short(
-    typed: u8,
-    pp: &[u8],
-    part: &[u8],
-    slots: usize,
-    kind: Kind,
+// Its data: the half bytes of what is named, from a place on. Returns the place behind them.
+fn put_data(
+    target: Target,
+    player: Player,
+    held: &Held,
+    place: usize,
     reply: &mut [u8],
 ) -> usize
-    requires pp_len_bound { (length pp.now ≤ 1) × (length part.now ≡ slots * size_of kind) }
-    requires pp_in_bounds { 2 * length part.now + (9 + length pp.now) ≤ length reply.old }
-    ensures value { result ≡ length (ended (dump_start kind typed pp.now ++ split (without_spares (size_of kind) slots part.now))) }
-    ensures reply_after { reply.new ≡ written (ended (dump_start kind typed pp.now ++ split (without_spares (size_of kind) slots part.now))) reply.old }
+    requires there { There target }
+    requires room { place + 2 * count_for held.now.kind target ≤ length reply.old }
+    ensures value { result ≡ place + 2 * length (bytes_out held.now.kind player target (content held.now)) }
+    ensures reply_after { reply.new ≡ put_part place (2 * length (bytes_out held.now.kind player target (content held.now))) (split (bytes_out held.now.kind player target (content held.now))) reply.old }
 {
-    let size = kinds::size(kind) as usize;
-    let place = begin(typed, pp, kind, reply);
-    let end = short::split_short(part, slots, size, place, reply);
-    bytes::write(&[0xF7], reply, end);
-    end + 1
+    let from = target.place(held.kind, player);
+    let part = &held.memory[from..from + target.count(held.kind)];
+    if goes_long(target, player, held) {
+        let end = place + 2 * part.len();
+        halves::split_into(part, &mut reply[place..end]).unwrap();
+        end
+    } else {
+        split_short(part, held.kind, place, reply)
+    }
+}
+
+// Whether the dump of what is named goes out long: where its marks are set, or the kind has no spare bytes.
+fn goes_long(target: Target, player: Player, held: &Held) -> bool
+    requires { There target }
+    ensures { result ≡ goes_long held.now.kind player target (content held.now) }
+{
+    let slot = target.slot(player);
+    let end = slot + target.slots();
+    !held.kind.has_spare() || all_set(&held.marks[slot..end])
+}
+
+fn all_set(marks: &[u8]) -> bool
+    ensures { result ≡ all_set marks.now }
+{
+    marks.iter().all(|mark| *mark == 1)
+}
+
+// The half bytes of programs without their spare bytes, from a place on. Returns the place behind them.
+fn split_short(part: &[u8], kind: Kind, place: usize, reply: &mut [u8]) -> usize
+    requires { place + 2 * (length part.now / size_of kind * (size_of kind - 1)) ≤ length reply.old }
+    ensures value { result ≡ place + 2 * (length part.now / size_of kind * (size_of kind - 1)) }
+    ensures reply_after { reply.new ≡ put_part place (2 * (length part.now / size_of kind * (size_of kind - 1))) (split (without_spares (size_of kind) (length part.now / size_of kind) part.now)) reply.old }
+{
+    let size = kind.size() as usize;
+    let mut to = place;
+    for program in part.chunks_exact(size) {
+        let next = to + 2 * (size - 1);
+        halves::split_into(&program[..size - 1], &mut reply[to..next]).unwrap();
+        to = next;
+    }
+    to
 }

@@ -1,13 +1,13 @@
 -- "one that reports a reply length it did not write", byte by byte: at no call is a byte told that was not written.
+use Rattle.std.specs.Prelude.{Err}
+use Rattle.ground.specs.declared.Refusal.{Refusal}
 use Prim.Native.Nat.{ℕ, suc, ◌+◌, ◌<◌}
 use mathlib.Core.List.{List, []}
 use mathlib.Core.Path.{◌≡◌, refl, sym, subst, ◌∙◌}
 use native.Mathlib.Omega.{arith}
-use lib.Dec.{eqb}
 use lib.ListN.{get_or, replicate, length-replicate, get_or-replicate, get_or-append}
 use Rattle.ground.specs.Tests.{Test, tested}
 use Rattle.ground.specs.Calls.{left, leaves}
-use Rattle.ground.proofs.Tests.{by}
 use Rattle.ground.proofs.InOrder.{tested_cases, tested-map}
 use Rattle.kinds.specs.declared.Kind.TheVariants.{Pod}
 use Rattle.kinds.specs.Kinds.{kind_of}
@@ -18,12 +18,11 @@ use Rattle.sockets.specs.Calls.{Socket}
 use Rattle.sockets.specs.Box.{Lent, lent, took, happening_does, direct_does}
 use Rattle.sockets.specs.Promise.{happening_of, socket_of, step_does, byte_of, direct_of}
 use Rattle.sysex.specs.declared.Settings.{Settings}
-use Rattle.sysex.specs.declared.Answer.{Answer}
 use Rattle.sysex.specs.Forms.{longest}
 use Rattle.sysex.specs.Numbers.{answer_length}
 use Rattle.carrying.specs.Carrying.{Outcome, Left}
 use Rattle.podbox.specs.Whole.{body_of, message_order}
-use Rattle.podbox.specs.Box.{limit, take_tests, whole_tests, Whole, socket_player, plain_answer, box_rules}
+use Rattle.podbox.specs.Box.{limit, take_tests, whole_tests, Whole, socket_player, box_rules}
 use Rattle.demands.proofs.Tells.{Tells, order_tells, message_tells}
 use Rattle.cases.specs.ShutOut.{pod, promised, ShutOut, ShutOutWhole, Unwritten, left_by, TellsUnwritten, TellsUnwrittenWhole}
 use Rattle.cases.proofs.ShutOut.{shut, shut_whole}
@@ -33,23 +32,17 @@ happening_tells settings held s Nothing = refl
 happening_tells settings held s Cut = refl
 happening_tells settings held s (Finished m) = message_tells (kind_of pod) settings (socket_player s) held m
 
--- a call that is turned away tells none
-none_told : (k number : ℕ) → k < answer_length (plain_answer number) → ⊥
-none_told k number =
-    let P : Answer → Type 0 = λ a. k < answer_length a → ⊥ in
-    by P (eqb number 0) _ _ (λ _ below. omega arith) (λ _. by P (eqb number 4) _ _ (λ _ below. omega arith) (λ _ below. omega arith))
-
 -- what a call leaves behind its tests
-abbrev behind : Outcome → Held → (List ℕ → List (Test ℕ)) → List ℕ → Left
-behind o held tests reply = tested (tests reply) (λ number. left (plain_answer number) held reply) (leaves o reply)
+abbrev behind : Outcome → Held → (List ℕ → List (Test Refusal)) → List ℕ → Left
+behind o held tests reply = tested (tests reply) (λ why. left (Err why) held reply) (leaves o reply)
 
-module _ (k : ℕ) (o : Outcome) (held : Held) (tests : List ℕ → List (Test ℕ)) (tells : Tells o) where
+module _ (k : ℕ) (o : Outcome) (held : Held) (tests : List ℕ → List (Test Refusal)) (tells : Tells o) where
   -- a byte that is told was sent
   told-sent : (reply : List ℕ) → k < answer_length (behind o held tests reply).answer → get_or (behind o held tests reply).reply k 0 ≡ get_or o.sent k 0
   told-sent reply =
-      tested_cases (λ (l : Left). k < answer_length l.answer → get_or l.reply k 0 ≡ get_or o.sent k 0) (tests reply) (λ number. left (plain_answer number) held reply) (leaves o reply)
+      tested_cases (λ (l : Left). k < answer_length l.answer → get_or l.reply k 0 ≡ get_or o.sent k 0) (tests reply) (λ why. left (Err why) held reply) (leaves o reply)
       (λ _ below. get_or-append o.sent _ 0 k (omega arith))
-      (λ number _ below. absurd (none_told k number below))
+      (λ why _ below. absurd (omega arith))
 
   -- and no byte is that of a buffer of zeros and that of a buffer of ones
   never_unwritten : Unwritten k (behind o held tests) → ⊥
@@ -68,7 +61,7 @@ byte_left : (settings : Settings) (socket byte : ℕ) (entry : Lent Held)
     → left_by (promised settings socket byte entry) ≡ behind (byte_does settings socket byte entry) entry.held (λ reply. take_tests pod settings socket entry) entry.reply
 unfolding byte_of step_does
 byte_left settings socket byte entry =
-    tested-map left_by (take_tests pod settings socket entry) (λ number. took entry.receiver (plain_answer number) entry.held entry.receive entry.reply)
+    tested-map left_by (take_tests pod settings socket entry) (λ why. took entry.receiver (Err why) entry.held entry.receive entry.reply)
     (step_does (box_rules pod settings) (socket_of socket) byte entry (step_of (limit (kind_of pod)) entry.receiver byte))
 
 pub unwritten : ShutOut TellsUnwritten

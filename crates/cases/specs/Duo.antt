@@ -16,9 +16,8 @@ use Rattle.sockets.specs.Box.{Said, SaidsOf}
 use Rattle.sockets.specs.History.{WorldOf, History}
 use Rattle.sockets.specs.Players.{seen_after}
 use Rattle.sysex.specs.declared.Settings.{Settings}
-use Rattle.sysex.specs.declared.Answer.{Answer}
 use Rattle.sysex.specs.Forms.{longest, request_body, dump_body, identity_body, ended}
-use Rattle.sysex.specs.Numbers.{answer_number, answer_length}
+use Rattle.sysex.specs.Numbers.{answer_number, answer_length, Answered}
 use Rattle.carrying.specs.Carrying.{Left}
 use Rattle.podbox.specs.declared.Move.{Move}
 use Rattle.podbox.specs.Settings.{fresh_settings, fresh_held}
@@ -362,7 +361,7 @@ abbrev pub selecting : List (Call Given)
 selecting =
     Byte S0 0xB0 ∷ Byte S1 0xB0 ∷ Byte S1 19 ∷ Byte S0 19 ∷ Byte S0 2 ∷ Byte S1 1 ∷ Byte S1 55 ∷ Byte S0 55 ∷ Byte S1 127 ∷ Byte S0 127 ∷ []
 
-abbrev pub SaidThen : List (Said Answer) → Type 0
+abbrev pub SaidThen : List (Said Answered) → Type 0
 SaidThen saids = noted saids ≡ 0 ∷ 0 ∷ 0 ∷ 0 ∷ 3 ∷ 3 ∷ 0 ∷ 0 ∷ 19 ∷ 3 ∷ []
 
 abbrev pub HeldThen : Held → Type 0

@@ -1,5 +1,5 @@
 -- Req 05: "Our lighting desk sends scenes as knob moves." Lists on a fresh box, and one run with two sockets, lists and a panel message between their bytes.
-use Rattle.std.specs.Prelude.{ℕ, List, [], ◌∷◌, map, ◌≡◌, get_or, replicate}
+use Rattle.std.specs.Prelude.{ℕ, List, [], ◌∷◌, map, ◌≡◌, get_or, replicate, Ok}
 use Rattle.kinds.specs.declared.Kind.{Kind}
 use Rattle.kinds.specs.declared.Kind.TheVariants.{Pod, BassPod}
 use Rattle.kinds.specs.Kinds.{number_of}
@@ -12,10 +12,9 @@ use Rattle.sockets.specs.Framer.{Channel}
 use Rattle.sockets.specs.Calls.{S0, S1, Call, Byte, Direct, Finish, FromSocket, FromDirect}
 use Rattle.sockets.specs.Box.{Said, said}
 use Rattle.sysex.specs.declared.Settings.{Settings}
-use Rattle.sysex.specs.declared.Answer.{Answer}
 use Rattle.sysex.specs.declared.Answer.TheVariants.{Taken}
 use Rattle.sysex.specs.Forms.{request_body, ended}
-use Rattle.sysex.specs.Numbers.{answer_number}
+use Rattle.sysex.specs.Numbers.{answer_number, Answered}
 use Rattle.carrying.specs.Carrying.{Left}
 use Rattle.podbox.specs.declared.Move.{Move}
 use Rattle.podbox.specs.Settings.{fresh_settings, fresh_held}
@@ -94,8 +93,8 @@ between =
     ∷ Direct (Whole 1 (ended (request_body Pod Edit))) ∷ Byte S0 9 ∷ Direct (Moves 0 (move 58 7 ∷ [])) ∷ Byte S1 12 ∷ Direct (Moves 1 (move 12 4 ∷ [])) ∷ Byte S1 11 ∷ []
 
 -- what the calls at these places wrote: the numbers of a list, or a reply
-abbrev pub wrote : List (Said Answer) → List ℕ → List (List ℕ)
-wrote saids places = map (λ (place : ℕ). (get_or saids place (said Taken [])).sent) places
+abbrev pub wrote : List (Said Answered) → List ℕ → List (List ℕ)
+wrote saids places = map (λ (place : ℕ). (get_or saids place (said (Ok Taken) [])).sent) places
 
 -- the number of each call
 unfoldable pub numbers : List ℕ
@@ -109,7 +108,7 @@ in_turn =
     ∷ FromDirect (FromList S1 (Channel 0xB0 12 4)) ∷ FromSocket S1 (Channel 0xB0 12 11) ∷ []
 
 -- what they answer: the numbers; 3 for each move of the three lists, so 58 came behind 19; and 7, socket 1's, as byte 8 of the reply to player two
-abbrev pub SaidInTurn : List (Said Answer) → Type 0
+abbrev pub SaidInTurn : List (Said Answered) → Type 0
 SaidInTurn saids =
     (noted saids ≡ numbers) × (wrote saids (4 ∷ 8 ∷ 10 ∷ []) ≡ (3 ∷ 3 ∷ []) ∷ (3 ∷ []) ∷ (3 ∷ []) ∷ [])
     × (map (λ (reply : List ℕ). part_of 24 2 reply) (wrote saids (6 ∷ [])) ≡ (0 ∷ 7 ∷ []) ∷ [])

@@ -1,12 +1,13 @@
 -- What Req 02 asks for, on messages that come back and on some that are right: the check that fails, with what it expects, or what is done.
-use Rattle.std.specs.Prelude.{ℕ, List, [], ◌∷◌, ◌++◌, map, ◌≡◌, set, take}
+use Rattle.std.specs.Prelude.{ℕ, List, [], ◌∷◌, ◌++◌, map, ◌≡◌, set, take, Result, Ok, Err}
 use Rattle.kinds.specs.declared.Kind.{Kind}
 use Rattle.kinds.specs.declared.Kind.TheVariants.{Pod, BassPod}
 use Rattle.kinds.specs.Kinds.{size_of}
 use Rattle.programs.specs.Memory.{all_size}
 use Rattle.programs.specs.declared.Target.TheVariants.{One, All}
 use Rattle.sysex.specs.declared.Order.{Order}
-use Rattle.sysex.specs.declared.Order.TheVariants.{Identify, SendProgram, SendAll, StoreProgram, StoreAll, Refused}
+use Rattle.sysex.specs.declared.Order.TheVariants.{Identify, Send, Store}
+use Rattle.sysex.specs.declared.Check.{Check}
 use Rattle.sysex.specs.declared.Check.TheVariants.{TooLong, Ours, OpcodeAndType, Length, Program, Version, HalfBytes, Channel}
 use Rattle.sysex.specs.Forms.{request_body, dump_body, identity_body, ended}
 use Rattle.podbox.specs.Whole.{reason_of}
@@ -14,9 +15,9 @@ use Rattle.cases.specs.Asking.{zeros}
 
 pub record Line : Type 0 where
   pub message : List ℕ
-  pub order : Order
+  pub order : Result Order Check
 
-abbrev pub ◌says◌ : List ℕ → Order → Line
+abbrev pub ◌says◌ : List ℕ → Result Order Check → Line
 message says order = record { message = message; order = order }
 
 infix 90 ◌says◌
@@ -35,43 +36,43 @@ every_dump kind = ended (dump_body kind All (zeros (all_size kind)))
 unfoldable pub lines : List Line
 lines =
     -- right as they are
-    one_dump Pod says StoreProgram 5 ∷
-    every_dump Pod says StoreAll ∷
-    ended (request_body Pod (One 0x23)) says SendProgram 0x23 ∷
-    ended (request_body Pod All) says SendAll ∷
-    ended (identity_body 0x7F) says Identify 0x7F ∷
+    one_dump Pod says Ok (Store (One 5)) ∷
+    every_dump Pod says Ok (Store All) ∷
+    ended (request_body Pod (One 0x23)) says Ok (Send (One 0x23)) ∷
+    ended (request_body Pod All) says Ok (Send All) ∷
+    ended (identity_body 0x7F) says Ok (Identify 0x7F) ∷
     -- cut one byte short, and without its F7
-    (take 152 (one_dump Pod) ++ (0xF7 ∷ [])) says Refused (Length 154 152) ∷
-    take 153 (one_dump Pod) says Refused (Ours 0x01) ∷
+    (take 152 (one_dump Pod) ++ (0xF7 ∷ [])) says Err (Length 154 152) ∷
+    take 153 (one_dump Pod) says Err (Ours 0x01) ∷
     -- saved with a line feed at its end: the longest one is too long then
-    (one_dump Pod ++ (0x0A ∷ [])) says Refused (Ours 0x01) ∷
-    (every_dump Pod ++ (0x0A ∷ [])) says Refused (TooLong 5193) ∷
+    (one_dump Pod ++ (0x0A ∷ [])) says Err (Ours 0x01) ∷
+    (every_dump Pod ++ (0x0A ∷ [])) says Err (TooLong 5193) ∷
     -- another unit's
-    one_dump BassPod says Refused (Ours 0x01) ∷
+    one_dump BassPod says Err (Ours 0x01) ∷
     -- nothing at all
-    [] says Refused (Ours 0x01) ∷
+    [] says Err (Ours 0x01) ∷
     -- each other check, and the length of another type
-    set (one_dump Pod) 6 3 says Refused OpcodeAndType ∷
-    set (ended (request_body Pod All)) 6 0 says Refused (Length 9 9) ∷
-    set (one_dump Pod) 7 0x24 says Refused (Program 0x23) ∷
-    set (one_dump Pod) 8 1 says Refused (Version 0) ∷
-    set (one_dump Pod) 152 0x10 says Refused (HalfBytes 0x0F) ∷
-    ended (identity_body 1) says Refused (Channel 0) ∷
+    set (one_dump Pod) 6 3 says Err OpcodeAndType ∷
+    set (ended (request_body Pod All)) 6 0 says Err (Length 9 9) ∷
+    set (one_dump Pod) 7 0x24 says Err (Program 0x23) ∷
+    set (one_dump Pod) 8 1 says Err (Version 0) ∷
+    set (one_dump Pod) 152 0x10 says Err (HalfBytes 0x0F) ∷
+    ended (identity_body 1) says Err (Channel 0) ∷
     []
 
 -- the same to a Bass POD, where what is expected is another
 unfoldable pub bass_lines : List Line
 bass_lines =
-    one_dump BassPod says StoreProgram 5 ∷
-    every_dump BassPod says StoreAll ∷
-    ended (request_body BassPod (One 0x23)) says SendProgram 0x23 ∷
-    ended (identity_body 0x7F) says Identify 0x7F ∷
-    (take 168 (one_dump BassPod) ++ (0xF7 ∷ [])) says Refused (Length 170 170) ∷
-    take 169 (one_dump BassPod) says Refused (Ours 0x02) ∷
-    (every_dump BassPod ++ (0x0A ∷ [])) says Refused (TooLong 5769) ∷
+    one_dump BassPod says Ok (Store (One 5)) ∷
+    every_dump BassPod says Ok (Store All) ∷
+    ended (request_body BassPod (One 0x23)) says Ok (Send (One 0x23)) ∷
+    ended (identity_body 0x7F) says Ok (Identify 0x7F) ∷
+    (take 168 (one_dump BassPod) ++ (0xF7 ∷ [])) says Err (Length 170 170) ∷
+    take 169 (one_dump BassPod) says Err (Ours 0x02) ∷
+    (every_dump BassPod ++ (0x0A ∷ [])) says Err (TooLong 5769) ∷
     -- the length of another type
-    set (one_dump BassPod) 6 1 says Refused (Length 169 169) ∷
-    set (one_dump BassPod) 6 2 says Refused (Length 5769 5769) ∷
-    one_dump Pod says Refused (Ours 0x02) ∷
-    every_dump Pod says Refused (Ours 0x02) ∷
+    set (one_dump BassPod) 6 1 says Err (Length 169 169) ∷
+    set (one_dump BassPod) 6 2 says Err (Length 5769 5769) ∷
+    one_dump Pod says Err (Ours 0x02) ∷
+    every_dump Pod says Err (Ours 0x02) ∷
     []

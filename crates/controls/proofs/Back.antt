@@ -1,6 +1,5 @@
 -- How a row's number comes about, and what follows: the smallest value that gives it is shown, and a value gives the number that it stored.
 use Prim.Native.Nat.{ℕ, ◌+◌, ◌*◌, ◌/◌, ◌%◌, ◌≤◌}
-use mathlib.Core.Bool.{Bool, true, false}
 use mathlib.Core.Logic.{inl, inr}
 use mathlib.Core.Path.{◌≡◌, refl, sym, ◌∙◌}
 use native.Mathlib.Omega.{arith}
@@ -9,12 +8,14 @@ use borrow.Author.Tests.{eqb-true, eqb-false}
 use Rattle.ground.proofs.Tests.{by}
 use Rattle.kinds.specs.declared.Kind.{Kind}
 use Rattle.controls.specs.declared.Row.{Row}
-use Rattle.controls.specs.Formulas.{m_upper, m_lower, number_for, m_of, next_for}
+use Rattle.controls.specs.declared.Formula.{Formula}
+use Rattle.controls.specs.declared.Formula.TheVariants.{AsReceived, Quotient, OnSheet, MUpper, MLower}
+use Rattle.controls.specs.Formulas.{number_for, m_of, next_for}
 use Rattle.controls.specs.Table.{row_of}
 use Rattle.controls.specs.Showing.{smallest, seven_bits, shown_of}
 use Rattle.controls.specs.Meaning.{Gives}
 use Rattle.controls.proofs.Bytes.{above}
-use Rattle.controls.proofs.Rows.{Whole, whole_upper, whole_lower, row_sane, number_room}
+use Rattle.controls.proofs.Rows.{Whole, whole, row_sane, number_room}
 use Rattle.controls.proofs.Smallest.{Shown, searched}
 
 -- seven bits of m, `bits m`: `new v m` is m with v in their place
@@ -39,13 +40,14 @@ pub data Formed (r : Row) : Type 0 where
 
 pub formed : (kind : Kind) (controller : ℕ) → Formed (row_of kind controller)
 unfolding next_for shown_of
-formed kind controller =
-    let r = row_of kind controller in
-    by (λ (_ : Bool). Formed r) (eqb r.formula m_upper) true false
-    (λ t. of_m upper (λ v stored. rw t) (λ stored. rw t) (whole_upper kind controller t))
-    (λ t. by (λ (_ : Bool). Formed r) (eqb r.formula m_lower) true false
-    (λ u. of_m lower (λ v stored. rw (t, u)) (λ stored. rw (t, u)) (whole_lower kind controller u))
-    (λ u. of_v (λ v stored. rw (t, u)) (λ stored. rw (t, u))))
+formed kind controller = by_formula (row_of kind controller).formula refl
+  where
+    by_formula : (formula : Formula) → (row_of kind controller).formula ≡ formula → Formed (row_of kind controller)
+    by_formula AsReceived is = of_v (λ v stored. rw is) (λ stored. rw is)
+    by_formula (Quotient divisor) is = of_v (λ v stored. rw is) (λ stored. rw is)
+    by_formula (OnSheet column) is = of_v (λ v stored. rw is) (λ stored. rw is)
+    by_formula MUpper is = of_m upper (λ v stored. rw is) (λ stored. rw is) (whole kind controller (rw is))
+    by_formula MLower is = of_m lower (λ v stored. rw is) (λ stored. rw is) (whole kind controller (rw is))
 
 m_small : (stored : ℕ) → m_of stored ≤ 16383
 unfolding m_of

@@ -5,18 +5,21 @@ use mathlib.Core.List.{List}
 use mathlib.Core.Logic.{⊎_elim, ◌↔◌}
 use mathlib.Core.Path.{◌≡◌, refl, sym, ◌∙◌}
 use native.Mathlib.Omega.{arith}
-use lib.Dec.{eqb}
 use lib.ListN.{length, get_or}
 use borrow.Author.Tests.{le-leb, ne_eqb, leb-true, leb-false, eqb-false, not-true}
+use Rattle.ground.specs.Refusals.{refusal_number}
 use Rattle.ground.specs.Tests.{tested, AllHold, FirstToFail}
 use Rattle.ground.proofs.InOrder.{tested-failed, tested_passed, tested_cases, tested_exactly, tested-map, first-named}
 use Rattle.kinds.specs.declared.Kind.{Kind}
 use Rattle.kinds.specs.declared.Kind.TheVariants.{Pod, BassPod}
 use Rattle.kinds.specs.Kinds.{size_of}
 use Rattle.controls.specs.declared.Row.{Row}
-use Rattle.controls.specs.declared.Change.TheVariants.{Applied, Refused}
+use Rattle.std.specs.Prelude.{Option, None, Some, is_none, Ok, Err}
+use Rattle.controls.specs.declared.Effect.{Effect}
+use Rattle.ground.specs.declared.Refusal.{Refusal}
+use Rattle.ground.specs.declared.Refusal.TheVariants.{TooShort, NotListed, OutOfRange, NotSelected}
 use Rattle.controls.specs.Answers.{change_number}
-use Rattle.controls.specs.Table.{none, chorus, rotary, table, row_of, selections, effect_of, selected}
+use Rattle.controls.specs.Table.{chorus, rotary, table, row_of, selections, effect_of, selected}
 use Rattle.controls.specs.Refusals.{selected_test}
 use Rattle.controls.specs.Applying.{Changed, changed, unchanged, store_row, apply_tests, apply_of}
 use Rattle.controls.specs.Showing.{back_tests}
@@ -41,43 +44,43 @@ module _ (kind : Kind) (controller : ℕ) (edit : List ℕ) where
 module _ (kind : Kind) (controller value : ℕ) (edit : List ℕ) where
   -- Applying is its tests, in their order, in front of the store.
   pub applied-tested : apply_of kind controller value edit
-      ≡ tested (apply_tests kind (row_of kind controller) value edit) (unchanged edit) (changed Applied (store_row (row_of kind controller) value edit))
+      ≡ tested (apply_tests kind (row_of kind controller) value edit) (unchanged edit) (changed (Ok tt) (store_row (row_of kind controller) value edit))
   unfolding apply_of
   applied-tested = refl
 
   -- So a refusal is that of the first test that fails, and of no other.
-  pub apply_exactly : (number : ℕ) → ((apply_of kind controller value edit).answer ≡ Refused number) ↔ FirstToFail (apply_tests kind (row_of kind controller) value edit) number
+  pub apply_exactly : (refusal : Refusal) → ((apply_of kind controller value edit).answer ≡ Err refusal) ↔ FirstToFail (apply_tests kind (row_of kind controller) value edit) refusal
   unfolding apply_of
-  apply_exactly number =
+  apply_exactly refusal =
       let tests = apply_tests kind (row_of kind controller) value edit in
       let answer = tested-map (λ (x : Changed). x.answer) tests (unchanged edit) _ in
-      (λ e. tested_exactly tests Refused Applied number (λ z. let no : ◌≡◌ {A = ℕ} 0 1 = cc in omega arith) (λ m n same. cc) (sym answer ∙ e), λ f. answer ∙ tested-failed Refused Applied f)
+      (λ e. tested_exactly tests Err (Ok tt) refusal (λ z. cc) (λ m n same. cc) (sym answer ∙ e), λ f. answer ∙ tested-failed Err (Ok tt) f)
 
   -- what holds of 30 for a short buffer, of 17, 18 and 19, and of the stored number where the move is allowed, holds of applying
-  pub apply_cases : (P : Changed → Type 0) → (length edit < size_of kind → P (changed (Refused 30) edit))
-      → ((number : ℕ) → 17 ≤ number → number ≤ 19 → P (changed (Refused number) edit))
-      → (Allowed kind controller edit → value ≤ (row_of kind controller).highest → P (changed Applied (store_row (row_of kind controller) value edit)))
+  pub apply_cases : (P : Changed → Type 0) → (length edit < size_of kind → P (changed (Err TooShort) edit))
+      → ((refusal : Refusal) → 17 ≤ refusal_number refusal → refusal_number refusal ≤ 19 → P (changed (Err refusal) edit))
+      → (Allowed kind controller edit → value ≤ (row_of kind controller).highest → P (changed (Ok tt) (store_row (row_of kind controller) value edit)))
       → P (apply_of kind controller value edit)
   unfolding apply_of
   apply_cases P short refused applied =
       tested_cases P (apply_tests kind (row_of kind controller) value edit) _ _
       (λ a. applied (allowed kind controller edit (a.0, (a.1.0, a.1.1.1))) (leb-true _ _ a.1.1.0))
-      (λ _ f. first-named (λ n. P (changed (Refused n) edit)) f (
+      (λ _ f. first-named (λ n. P (changed (Err n) edit)) f (
         (λ l. short (leb-false _ _ l)),
-        λ _. ((λ _. refused 17 (omega arith) (omega arith)), λ _. ((λ _. refused 18 (omega arith) (omega arith)), λ _. ((λ _. refused 19 (omega arith) (omega arith)), λ _. tt))),
+        λ _. ((λ _. refused NotListed (omega arith) (omega arith)), λ _. ((λ _. refused OutOfRange (omega arith) (omega arith)), λ _. ((λ _. refused NotSelected (omega arith) (omega arith)), λ _. tt))),
       ))
 
   -- Applied exactly when row, range and effect allow.
   pub applied : Allowed kind controller edit → value ≤ (row_of kind controller).highest
-      → apply_of kind controller value edit ≡ changed Applied (store_row (row_of kind controller) value edit)
+      → apply_of kind controller value edit ≡ changed (Ok tt) (store_row (row_of kind controller) value edit)
   unfolding apply_of
   applied o h = let p = all_hold kind controller edit o in tested_passed (apply_tests kind (row_of kind controller) value edit) (unchanged edit) _ (p.0, (p.1.0, (le-leb _ _ h, p.1.1)))
 
-  pub applied-only : (apply_of kind controller value edit).answer ≡ Applied → Allowed kind controller edit × (value ≤ (row_of kind controller).highest)
+  pub applied-only : (apply_of kind controller value edit).answer ≡ Ok tt → Allowed kind controller edit × (value ≤ (row_of kind controller).highest)
   applied-only =
-      apply_cases (λ x. x.answer ≡ Applied → Allowed kind controller edit × (value ≤ (row_of kind controller).highest))
-      (λ _ e. let z : ◌≡◌ {A = ℕ} 0 1 = cc in absurd (omega arith))
-      (λ _ _ _ e. let z : ◌≡◌ {A = ℕ} 0 1 = cc in absurd (omega arith))
+      apply_cases (λ x. x.answer ≡ Ok tt → Allowed kind controller edit × (value ≤ (row_of kind controller).highest))
+      (λ _ e. cc)
+      (λ _ _ _ e. cc)
       (λ o h e. (o, h))
 
   -- A refusal changes no byte.
@@ -101,16 +104,22 @@ module _ (kind : Kind) (controller value : ℕ) (edit : List ℕ) where
 pub only_19_selects : (controller value : ℕ) (edit : List ℕ) → (controller ≡ 19 → ⊥) → get_or (apply_of Pod controller value edit).edit 46 0 ≡ get_or edit 46 0
 only_19_selects controller value edit other = only_its_bytes Pod controller value edit 46 (beside_46 controller other)
 
+-- what needs no effect is selected at any byte
+none_selected : (effect : Option Effect) (byte46 : ℕ) → is_none effect ≡ true → selected effect byte46 ≡ true
+unfolding selected
+none_selected None byte46 none = refl
+none_selected (Some effect) byte46 none = absurd (false≢true none)
+
 -- On a Bass POD byte 46 plays no part: every controller is selected, whatever stands there,
 pub bass-selected : (controller : ℕ) (edit : List ℕ) → (selected_test (row_of BassPod controller) edit).holds ≡ true
-unfolding table selected
-bass-selected controller edit = rw (row-found BassPod (λ _ r. eqb r.effect none) (λ _. refl) refl controller)
+unfolding table
+bass-selected controller edit = none_selected _ _ (row-found BassPod (λ _ r. is_none r.effect) (λ _. refl) refl controller)
 
 -- and applying never answers 19.
-pub bass_never_19 : (controller value : ℕ) (edit : List ℕ) → (apply_of BassPod controller value edit).answer ≡ Refused 19 → ⊥
+pub bass_never_19 : (controller value : ℕ) (edit : List ℕ) → (apply_of BassPod controller value edit).answer ≡ Err NotSelected → ⊥
 bass_never_19 controller value edit e =
-    first-named (λ n. n ≡ 19 → ⊥) ((apply_exactly BassPod controller value edit 19).0 e)
-    ((λ _. omega arith), λ _. ((λ _. omega arith), λ _. ((λ _. omega arith), λ _. ((λ fails. absurd (false≢true (sym fails ∙ bass-selected controller edit))), λ _. tt)))) refl
+    first-named (λ n. n ≡ NotSelected → ⊥) ((apply_exactly BassPod controller value edit NotSelected).0 e)
+    ((λ _ e. cc), λ _. ((λ _ e. cc), λ _. ((λ _ e. cc), λ _. ((λ fails. absurd (false≢true (sym fails ∙ bass-selected controller edit))), λ _. tt)))) refl
 
 flanger_effect : (byte46 : ℕ) → Flanger byte46 → effect_of byte46 ≡ chorus
 unfolding effect_of selections
@@ -124,7 +133,7 @@ rotary-row controller m =
 
 -- The demand's own story: the move is refused with 19, and no byte changes, whatever else the buffer holds.
 pub rotary-under_flanger : (controller value : ℕ) (edit : List ℕ) → RotaryMove controller → value ≤ 127 → size_of Pod ≤ length edit
-    → Flanger (get_or edit 46 0) → apply_of Pod controller value edit ≡ changed (Refused 19) edit
+    → Flanger (get_or edit 46 0) → apply_of Pod controller value edit ≡ changed (Err NotSelected) edit
 unfolding apply_of selected
 rotary-under_flanger controller value edit m h long f =
     let r = row_of Pod controller in

@@ -1,5 +1,4 @@
 pub mod Rows
-pub mod Packed
 pub mod Listed
 pub mod Columns
 pub mod Smallest
@@ -8,4 +7,5 @@ pub mod Bytes
 pub mod Back
 pub mod Controllers
 pub mod RoundTrips
+pub mod Found
 pub mod OneResult

@@ -5,17 +5,16 @@ use mathlib.Core.List.{List}
 use mathlib.Core.Logic.{inl, ⊎_elim}
 use mathlib.Core.Path.{◌≡◌, refl, ap, ◌∙◌}
 use native.Mathlib.Omega.{arith}
-use lib.Dec.{eqb}
 use lib.ListN.{get_or}
 use Rattle.ground.specs.Lists.{all_at_most}
-use Rattle.ground.proofs.Tests.{by}
 use Rattle.ground.proofs.InOrder.{tested_passed, tested_cases, first-named}
 use Rattle.kinds.specs.declared.Kind.{Kind}
-use Rattle.controls.specs.declared.Reading.{Reading}
-use Rattle.controls.specs.declared.Reading.TheVariants.{Value, Refused}
-use Rattle.controls.specs.declared.Change.TheVariants.{Applied}
+use Rattle.std.specs.Prelude.{Option, None, Some, Result, Ok, Err}
+use Rattle.ground.specs.declared.Refusal.{Refusal}
+use Rattle.ground.specs.declared.Refusal.TheVariants as refusals
 use Rattle.controls.specs.Formulas.{next_for}
-use Rattle.controls.specs.Table.{none, row_of, effect_of, selected}
+use Rattle.controls.specs.declared.Effect.{Effect}
+use Rattle.controls.specs.Table.{row_of, selected}
 use Rattle.controls.specs.Fields.{number_in}
 use Rattle.controls.specs.Applying.{changed, store_row, apply_of}
 use Rattle.controls.specs.Showing.{shown_of, back_tests, back_of}
@@ -27,52 +26,52 @@ use Rattle.controls.proofs.Controllers.{allowed, all_hold, applied, only_its_byt
 
 module _ (kind : Kind) (controller : ℕ) (edit : List ℕ) where
   -- What is shown is the smallest value that gives the stored number.
-  pub shown-smallest : (value : ℕ) → back_of kind controller edit ≡ Value value → Allowed kind controller edit × Smallest (row_of kind controller) (number_in (row_of kind controller) edit) value
+  pub shown-smallest : (value : ℕ) → back_of kind controller edit ≡ Ok value → Allowed kind controller edit × Smallest (row_of kind controller) (number_in (row_of kind controller) edit) value
   unfolding back_of
   shown-smallest value =
       let r = row_of kind controller in
-      tested_cases (λ (x : Reading). x ≡ Value value → Allowed kind controller edit × Smallest r (number_in r edit) value) (back_tests kind r edit) Refused _
+      tested_cases (λ (x : Result ℕ Refusal). x ≡ Ok value → Allowed kind controller edit × Smallest r (number_in r edit) value) (back_tests kind r edit) Err _
       (λ a e. ⊎_elim
       (λ s. let same : s.0 ≡ value = cc in (allowed kind controller edit a, rw same at s.2))
-      (λ s. let z : ◌≡◌ {A = ℕ} 0 1 = cc in absurd (omega arith))
+      (λ s. cc)
       (row-shown kind controller (formed kind controller) (number_in r edit)))
-      (λ _ _ e. let z : ◌≡◌ {A = ℕ} 0 1 = cc in absurd (omega arith))
+      (λ _ _ e. cc)
 
   -- 40 is answered exactly where no value of the controller's range gives the stored number.
-  pub shown_40 : back_of kind controller edit ≡ Refused 40 → Allowed kind controller edit × NoneGives (row_of kind controller) (number_in (row_of kind controller) edit)
+  pub shown_40 : back_of kind controller edit ≡ Err refusals.NoneGives → Allowed kind controller edit × NoneGives (row_of kind controller) (number_in (row_of kind controller) edit)
   unfolding back_of
   shown_40 =
       let r = row_of kind controller in
-      tested_cases (λ (x : Reading). x ≡ Refused 40 → Allowed kind controller edit × NoneGives r (number_in r edit)) (back_tests kind r edit) Refused _
+      tested_cases (λ (x : Result ℕ Refusal). x ≡ Err refusals.NoneGives → Allowed kind controller edit × NoneGives r (number_in r edit)) (back_tests kind r edit) Err _
       (λ a e. ⊎_elim
-      (λ s. let z : ◌≡◌ {A = ℕ} 0 1 = cc in absurd (omega arith))
+      (λ s. cc)
       (λ s. (allowed kind controller edit a, s.1))
       (row-shown kind controller (formed kind controller) (number_in r edit)))
-      (λ number f e.
-      let same : number ≡ 40 = cc in
-      absurd (first-named (λ n. n ≡ 40 → ⊥) f ((λ _. omega arith), λ _. ((λ _. omega arith), λ _. ((λ _. omega arith), λ _. tt))) same))
+      (λ refusal f e.
+      let same : refusal ≡ refusals.NoneGives = cc in
+      absurd (first-named (λ r. r ≡ refusals.NoneGives → ⊥) f ((λ _ e. cc), λ _. ((λ _ e. cc), λ _. ((λ _ e. cc), λ _. tt))) same))
 
   back_allowed : Allowed kind controller edit → back_of kind controller edit ≡ shown_of (row_of kind controller) (number_in (row_of kind controller) edit)
   unfolding back_of
-  back_allowed o = tested_passed (back_tests kind (row_of kind controller) edit) Refused _ (all_hold kind controller edit o)
+  back_allowed o = tested_passed (back_tests kind (row_of kind controller) edit) Err _ (all_hold kind controller edit o)
 
-  pub none_40 : Allowed kind controller edit → NoneGives (row_of kind controller) (number_in (row_of kind controller) edit) → back_of kind controller edit ≡ Refused 40
+  pub none_40 : Allowed kind controller edit → NoneGives (row_of kind controller) (number_in (row_of kind controller) edit) → back_of kind controller edit ≡ Err refusals.NoneGives
   none_40 o n =
       back_allowed o
       ∙ ⊎_elim (λ s. absurd (n s.0 s.2.within s.2.gives)) (λ s. s.0) (row-shown kind controller (formed kind controller) (number_in (row_of kind controller) edit))
 
   -- Req 01: "a stored 0 in these three fields now gives 40", and so does every number below the row's least.
-  pub below_least : Allowed kind controller edit → number_in (row_of kind controller) edit < (row_of kind controller).least → back_of kind controller edit ≡ Refused 40
+  pub below_least : Allowed kind controller edit → number_in (row_of kind controller) edit < (row_of kind controller).least → back_of kind controller edit ≡ Err refusals.NoneGives
   below_least o below = none_40 o (λ v h g. let least = least_given kind controller (formed kind controller) v (number_in (row_of kind controller) edit) g in omega arith)
 
   -- A value that is shown back, applied again, changes no byte.
-  pub shown-applied : (value : ℕ) → all_at_most 0xFF edit ≡ true → back_of kind controller edit ≡ Value value → apply_of kind controller value edit ≡ changed Applied edit
+  pub shown-applied : (value : ℕ) → all_at_most 0xFF edit ≡ true → back_of kind controller edit ≡ Ok value → apply_of kind controller value edit ≡ changed (Ok tt) edit
   unfolding store_row
   shown-applied value bytes e =
       let r = row_of kind controller in
       let s = shown-smallest value e in
       applied kind controller value edit s.0 s.1.within
-      ∙ ap (changed Applied) (rw s.1.gives (put-read r.width r.place edit bytes))
+      ∙ ap (changed (Ok tt)) (rw s.1.gives (put-read r.width r.place edit bytes))
 
 module _ (kind : Kind) (controller value : ℕ) (edit : List ℕ) (o : Allowed kind controller edit) (h : value ≤ (row_of kind controller).highest) where
   abbrev after : List ℕ
@@ -95,12 +94,15 @@ module _ (kind : Kind) (controller value : ℕ) (edit : List ℕ) (o : Allowed k
       record {
         long = rw (length-kept kind controller value edit) o.long;
         listed = o.listed;
-        chosen = by (λ x. x ≡ true) (eqb r.effect none) true (eqb r.effect (effect_of (get_or after 46 0))) (λ _. refl)
-            (λ t. rw (only_its_bytes kind controller value edit 46 (inl (shared_beyond kind controller t))) (rw t at o.chosen));
+        chosen = still r.effect refl o.chosen;
       }
+    where
+      still : (effect : Option Effect) → (row_of kind controller).effect ≡ effect → selected effect (get_or edit 46 0) ≡ true → selected effect (get_or after 46 0) ≡ true
+      still None is chosen = refl
+      still (Some effect) is chosen = rw (only_its_bytes kind controller value edit 46 (inl (shared_beyond kind controller effect is))) chosen
 
   -- Applied, then shown back, gives the smallest value with the same stored number.
-  pub applied-shown : (w : ℕ) × (back_of kind controller (apply_of kind controller value edit).edit ≡ Value w)
+  pub applied-shown : (w : ℕ) × (back_of kind controller (apply_of kind controller value edit).edit ≡ Ok w)
       × Smallest (row_of kind controller) (number_in (row_of kind controller) (apply_of kind controller value edit).edit) w × (w ≤ value)
   applied-shown =
       let r = row_of kind controller in

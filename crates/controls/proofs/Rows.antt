@@ -4,9 +4,10 @@ use mathlib.Core.Bool.{Bool, true, false, false≢true, cond, not, ◌&&◌, ◌
 use mathlib.Core.List.{List, [], ◌∷◌}
 use mathlib.Core.Logic.{inl, inr, ⊎_elim}
 use mathlib.Core.Path.{◌≡◌, refl, sym, ap, ◌∙◌}
+use Rattle.std.specs.Prelude.{Option, None, Some, is_none}
 use native.Mathlib.Omega.{arith}
 use lib.Dec.{eqb, leb, ltb}
-use borrow.Author.Tests.{eqb-true, leb-true, ltb-true, ne_eqb}
+use borrow.Author.Tests.{eqb-true, eqb-false, leb-true, ltb-true, ne_eqb}
 use Rattle.ground.proofs.Tests.{both, either, by}
 use Rattle.ground.proofs.Computed.{every, every-at}
 use Rattle.kinds.specs.declared.Kind.{Kind}
@@ -14,10 +15,13 @@ use Rattle.kinds.specs.declared.Kind.TheVariants.{Pod, PodPro}
 use Rattle.kinds.specs.Kinds.{size_of, highest_model}
 use Rattle.kinds.proofs.AnyKind.{each_kind, at_kind}
 use Rattle.controls.specs.declared.Row.{Row}
-use Rattle.controls.specs.Formulas.{m_upper, m_lower, number_by, number_for}
-use Rattle.controls.specs.Table.{Entry, Line, find, none, unlisted, table, if_so, standing, rows, row_of}
+use Rattle.controls.specs.declared.Effect.{Effect}
+use Rattle.controls.specs.declared.Effect.TheVariants.{Swell, Compressor, Chorus, Rotary, Tremolo}
+use Rattle.controls.specs.Formulas.{number_by, number_for}
+use Rattle.controls.specs.Scaling.{goes_by_v}
+use Rattle.controls.specs.Table.{Entry, Line, find, unlisted, table, if_listed, same_effect, if_so, standing, rows, row_of}
 use Rattle.controls.specs.Meaning.{Outside}
-use Rattle.controls.specs.Private.{Sane}
+use Rattle.controls.specs.Private.{least_of, takes}
 use Rattle.controls.proofs.Bytes.{above}
 
 -- a test that each entry passes
@@ -51,12 +55,20 @@ fact test t kind =
     let p = both (test kind unlisted) (all_pass (λ _. test kind) (rows kind)) (at_kind (kind_passes test) t kind) in
     row-found kind (λ _. test kind) (λ _. p.0) p.1
 
+-- of every row: its field lies in a program of the kind, is three bytes wide at most, and takes data bytes; its numbers are its formula's
+pub record Sane (kind : Kind) (r : Row) : Type 0 where
+  pub inside : r.place + r.width ≤ size_of kind
+  pub narrow : r.width ≤ 3
+  pub low : r.highest ≤ 127
+  pub raised : r.least ≡ least_of r.formula
+  pub taken : takes r.formula r.highest ≡ true
+
 abbrev is_sane : Kind → Row → Bool
-is_sane kind r = leb (r.place + r.width) (size_of kind) && (leb r.width 3 && leb r.highest 127)
+is_sane kind r = leb (r.place + r.width) (size_of kind) && (leb r.width 3 && (leb r.highest 127 && (eqb r.least (least_of r.formula) && takes r.formula r.highest)))
 
 -- 30 and 62 take every seven bits, have three bytes, and are not raised
-abbrev whole_m : ℕ → Row → Bool
-whole_m formula r = cond (eqb r.formula formula) (leb 127 r.highest && (eqb r.width 3 && eqb r.least 0)) true
+abbrev whole_m : Row → Bool
+whole_m r = cond (goes_by_v r.formula) true (leb 127 r.highest && (eqb r.width 3 && eqb r.least 0))
 
 abbrev pub Whole : Row → Type 0
 Whole r = (127 ≤ r.highest) × (r.width ≡ 3) × (r.least ≡ 0)
@@ -66,28 +78,23 @@ abbrev at_each : (Row → ℕ → Bool) → Row → Bool
 at_each test r = every (λ v. test r (number_for r v)) (r.highest + 1)
 
 module _ (kind : Kind) (controller : ℕ) where
-  wholes : (formula : ℕ) → every_row (λ _. whole_m formula) ≡ true → eqb (row_of kind controller).formula formula ≡ true → Whole (row_of kind controller)
-  wholes formula t e =
+  pub whole : goes_by_v (row_of kind controller).formula ≡ false → Whole (row_of kind controller)
+  unfolding table
+  whole e =
       let r = row_of kind controller in
-      let p = both (leb 127 r.highest) _ (rw e at (fact (λ _. whole_m formula) t kind controller)) in
+      let p = both (leb 127 r.highest) _ (rw e at (fact (λ _. whole_m) refl kind controller)) in
       let q = both (eqb r.width 3) _ p.1 in
       (leb-true _ _ p.0, eqb-true _ _ q.0, eqb-true _ _ q.1)
 
-  pub whole_upper : eqb (row_of kind controller).formula m_upper ≡ true → Whole (row_of kind controller)
-  unfolding table
-  whole_upper = wholes m_upper refl
-
-  pub whole_lower : eqb (row_of kind controller).formula m_lower ≡ true → Whole (row_of kind controller)
-  unfolding table
-  whole_lower = wholes m_lower refl
-
   pub row_sane : Sane kind (row_of kind controller)
-  unfolding table highest_model size_of
+  unfolding table row_of highest_model size_of
   row_sane =
       let r = row_of kind controller in
       let p = both (leb (r.place + r.width) (size_of kind)) _ (fact is_sane refl kind controller) in
       let q = both (leb r.width 3) _ p.1 in
-      record { inside = leb-true _ _ p.0; narrow = leb-true _ _ q.0; low = leb-true _ _ q.1; of_table = (controller, refl) }
+      let s = both (leb r.highest 127) _ q.1 in
+      let t = both (eqb r.least (least_of r.formula)) _ s.1 in
+      record { inside = leb-true _ _ p.0; narrow = leb-true _ _ q.0; low = leb-true _ _ s.0; raised = eqb-true _ _ t.0; taken = t.1 }
 
   -- what the test says of every row holds of the controller's
   numbers : (test : Row → ℕ → Bool) → every_row (λ _. at_each test) ≡ true
@@ -105,9 +112,9 @@ module _ (kind : Kind) (controller : ℕ) where
   number_low v h = ltb-true _ _ (numbers (λ _ n. ltb n 65536) refl v h)
 
   -- a shared byte is not byte 46
-  pub shared_beyond : eqb (row_of kind controller).effect none ≡ false → 46 < (row_of kind controller).place
+  pub shared_beyond : (effect : Effect) → (row_of kind controller).effect ≡ Some effect → 46 < (row_of kind controller).place
   unfolding table
-  shared_beyond e = ltb-true _ _ (rw e at (fact (λ _ r. cond (eqb r.effect none) true (ltb 46 r.place)) refl kind controller))
+  shared_beyond effect e = ltb-true _ _ (rw e at (fact (λ _ r. cond (is_none r.effect) true (ltb 46 r.place)) refl kind controller))
 
 -- of a POD's controllers only 19 has byte 46
 pub beside_46 : (controller : ℕ) → (controller ≡ 19 → ⊥) → Outside (row_of Pod controller).width (row_of Pod controller).place 46
@@ -151,6 +158,24 @@ pub as_on_pod : (controller : ℕ) → (controller ≡ 9 → ⊥) → (controlle
 unfolding row_of table
 as_on_pod controller not_9 not_12 =
     same_rows controller (λ n. eqb n 9 || eqb n 12) PodPro Pod table refl (rw (ne_eqb controller 9 not_9, ne_eqb controller 12 not_12))
+
+-- what is found of a controller's row: the row, which has bytes, or none
+pub listed : (r s : Row) → if_listed r ≡ Some s → (s ≡ r) × (1 ≤ s.width)
+listed r s =
+    by (λ (x : Option Row). x ≡ Some s → (s ≡ r) × (1 ≤ s.width)) (eqb r.width 0) None (Some r)
+    (λ t e. cc)
+    (λ t e. let is : s ≡ r = cc in let some = eqb-false r.width 0 t in rw is (refl, omega arith))
+
+pub unlisted_none : (r : Row) → if_listed r ≡ None → r.width ≡ 0
+unlisted_none r = by (λ (x : Option Row). x ≡ None → r.width ≡ 0) (eqb r.width 0) None (Some r) (λ t e. eqb-true r.width 0 t) (λ t e. cc)
+
+-- two effects are one, or they are not
+pub same_is : (effect : Effect) (other : Option Effect) → Some effect ≡ other → same_effect (Some effect) other ≡ true
+same_is Swell other is = rw (← is)
+same_is Compressor other is = rw (← is)
+same_is Chorus other is = rw (← is)
+same_is Rotary other is = rw (← is)
+same_is Tremolo other is = rw (← is)
 
 -- an edit buffer of any kind has byte 46
 pub has_46 : (kind : Kind) → 46 < size_of kind

@@ -8,13 +8,12 @@ use lib.Dec.{eqb}
 use borrow.Author.Tests.{eq-eqb, ne_eqb, eqb-true, eqb-false}
 use Rattle.ground.proofs.Tests.{by}
 use Rattle.controls.specs.declared.Row.{Row}
-use Rattle.controls.specs.declared.Reading.{Reading}
-use Rattle.controls.specs.declared.Reading.TheVariants.{Value, Refused}
-use Rattle.controls.specs.Formulas.{m_upper, m_lower, number_for, next_for}
-use Rattle.controls.specs.Showing.{smallest, shown_of}
-use Rattle.controls.specs.Private.{divisor_of}
+use Rattle.std.specs.Prelude.{Result, Ok, Err}
+use Rattle.ground.specs.declared.Refusal.{Refusal}
+use Rattle.ground.specs.declared.Refusal.TheVariants as refusals
+use Rattle.controls.specs.Formulas.{number_for, next_for}
+use Rattle.controls.specs.Showing.{smallest}
 use Rattle.controls.specs.Meaning.{Gives, Smallest, NoneGives}
-use Rattle.controls.proofs.Columns.{divides}
 
 -- of n values that all give other numbers none is shown
 pub passed : (r : Row) (stored n m v : ℕ) → ((u : ℕ) → v ≤ u → u < v + n → number_for r u ≡ stored → ⊥) → smallest r stored (n + m) v ≡ smallest r stored m (v + n)
@@ -26,42 +25,23 @@ passed r stored (suc n) m v none =
     rw (more, other, ← same) (passed r stored n m (v + 1) (λ u l h. none u (omega arith) (omega arith)))
 
 -- where none of count values gives the number, none is shown
-pub none-shown : (r : Row) (stored count v : ℕ) → ((u : ℕ) → v ≤ u → u < v + count → number_for r u ≡ stored → ⊥) → smallest r stored count v ≡ Refused 40
+pub none-shown : (r : Row) (stored count v : ℕ) → ((u : ℕ) → v ≤ u → u < v + count → number_for r u ≡ stored → ⊥) → smallest r stored count v ≡ Err refusals.NoneGives
 none-shown r stored count v none = let all : count + 0 ≡ count = omega arith in rw all at (passed r stored count 0 v none)
-
--- the first n values are enough, if one of them gives the number wherever one of the m behind them does
-pub enough : (r : Row) (stored n m v : ℕ)
-    → ((u : ℕ) → v + n ≤ u → u < v + (n + m) → number_for r u ≡ stored → (w : ℕ) × (v ≤ w) × (w < v + n) × (number_for r w ≡ stored))
-    → smallest r stored (n + m) v ≡ smallest r stored n v
-enough r stored zero m v sooner = let all : 0 + m ≡ m = omega arith in rw all (none-shown r stored m v (λ u l h e. let w = sooner u (omega arith) (omega arith) e in omega arith))
-enough r stored (suc n) m v sooner =
-    let more : suc n + m ≡ suc (n + m) = omega arith in
-    rw more (by (λ (x : Reading). x ≡ smallest r stored (suc n) v) (eqb (number_for r v) stored) _ _
-    (λ t. rw t)
-    (λ t. rw t (enough r stored n m (v + 1) (λ u l h e.
-    let s = sooner u (omega arith) (omega arith) e in
-    let later : s.0 ≡ v → ⊥ = λ is. eqb-false _ _ t (rw is at s.3) in
-    (s.0, omega arith, omega arith, s.3)))))
 
 -- where the number is a quotient, the smallest value is the divisor that many times, if it is one of the values
 module _ (r : Row) (d : ℕ) (quotient : (v : ℕ) → number_for r v ≡ v / d) (some : 1 ≤ d) (stored : ℕ) where
   below : (u : ℕ) → u < stored * d → number_for r u ≡ stored → ⊥
   below u h e = let less = (div-lt_iff_lt-mul some).1 h in let is = sym (quotient u) ∙ e in omega arith
 
-  pub multiple-shown : (highest : ℕ) → stored * d ≤ highest → smallest r stored (highest + 1) 0 ≡ Value (stored * d)
+  pub multiple-shown : (highest : ℕ) → stored * d ≤ highest → smallest r stored (highest + 1) 0 ≡ Ok (stored * d)
   multiple-shown highest h =
       let count : highest + 1 ≡ stored * d + suc (highest - stored * d) = omega arith in
       let start : 0 + stored * d ≡ stored * d = omega arith in
       let gives = eq-eqb (number_for r (stored * d)) stored (quotient (stored * d) ∙ mul-div_cancel stored some) in
       rw count (passed r stored (stored * d) (suc (highest - stored * d)) 0 (λ u _ l. below u (omega arith)) ∙ (rw (start, gives)))
 
-  pub multiple-refused : (highest : ℕ) → highest < stored * d → smallest r stored (highest + 1) 0 ≡ Refused 40
+  pub multiple-refused : (highest : ℕ) → highest < stored * d → smallest r stored (highest + 1) 0 ≡ Err refusals.NoneGives
   multiple-refused highest h = none-shown r stored (highest + 1) 0 (λ u _ l. below u (omega arith))
-
--- and no formula of m divides
-pub divided_shown : (r : Row) (stored : ℕ) → 1 ≤ divisor_of r.formula → smallest r stored (r.highest + 1) 0 ≡ shown_of r stored
-unfolding shown_of divisor_of
-divided_shown r stored h = rw (divides r.formula m_upper h refl, divides r.formula m_lower h refl)
 
 -- rows with the same numbers show the same
 pub same_shown : (r s : Row) (stored count v : ℕ) → ((u : ℕ) → u < v + count → number_for r u ≡ number_for s u) → smallest r stored count v ≡ smallest s stored count v
@@ -70,8 +50,8 @@ same_shown r s stored (suc count) v same =
     rw (same v (omega arith), same_shown r s stored count (v + 1) (λ u h. same u (omega arith)))
 
 -- a stored number is shown by the smallest value that gives it, and as 40 exactly where none does
-abbrev pub Shown : Row → ℕ → Reading → Type 0
-Shown r stored answer = ((w : ℕ) × (answer ≡ Value w) × Smallest r stored w) ⊎ ((answer ≡ Refused 40) × NoneGives r stored)
+abbrev pub Shown : Row → ℕ → Result ℕ Refusal → Type 0
+Shown r stored answer = ((w : ℕ) × (answer ≡ Ok w) × Smallest r stored w) ⊎ ((answer ≡ Err refusals.NoneGives) × NoneGives r stored)
 
 -- where a row's number goes by v alone, the search from v on finds the smallest one, if none before v gives the stored number
 pub searched : (r : Row) (stored : ℕ) → ((v : ℕ) → next_for r v stored ≡ number_for r v) → (count v : ℕ) → v + count ≡ r.highest + 1

@@ -9,3 +9,4 @@ pub mod Applying
 pub mod Showing
 pub mod Meaning
 pub mod Private
+pub mod Found

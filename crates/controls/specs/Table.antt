@@ -1,9 +1,12 @@
 -- The controllers of each kind of unit: "These 49 controllers are all."; of a Bass POD "Only these controllers"; of a POD Pro the 49 and 9.
-use Rattle.std.specs.Prelude.{ℕ, Bool, true, false, cond, List, [], ◌∷◌, eqb}
+use Rattle.std.specs.Prelude.{ℕ, Bool, true, false, cond, List, [], ◌∷◌, eqb, Option, None, Some}
 use Rattle.kinds.specs.declared.Kind.{Kind}
 use Rattle.kinds.specs.declared.Kind.TheVariants.{Pod, BassPod, PodPro}
 use Rattle.kinds.specs.Kinds.{highest_model}
 use Rattle.controls.specs.declared.Row.{Row}
+use Rattle.controls.specs.declared.Formula.{Formula}
+use Rattle.controls.specs.declared.Effect.{Effect}
+use Rattle.controls.specs.declared.Effect.TheVariants.{Swell, Compressor, Chorus, Rotary, Tremolo}
 use Rattle.controls.specs.Formulas.{v/64, v/2, as_received, threshold, m_upper, m_lower, v/22, v×50, v×256/104, v×256/42, v×22+100, v×25}
 
 -- something that stands under a number: a row under its controller, an effect under a value of byte 46
@@ -17,26 +20,26 @@ find other key [] = other
 find other key (e ∷ es) = cond (eqb key e.key) e.value (find other key es)
 
 -- The effects that share bytes 48 to 54, named as 000 names them.
-abbrev pub none : ℕ
-none = 0
+abbrev pub none : Option Effect
+none = None
 
-abbrev pub swell : ℕ
-swell = 1
+abbrev pub swell : Option Effect
+swell = Some Swell
 
-abbrev pub compressor : ℕ
-compressor = 2
+abbrev pub compressor : Option Effect
+compressor = Some Compressor
 
-abbrev pub chorus : ℕ
-chorus = 3
+abbrev pub chorus : Option Effect
+chorus = Some Chorus
 
-abbrev pub rotary : ℕ
-rotary = 4
+abbrev pub rotary : Option Effect
+rotary = Some Rotary
 
-abbrev pub tremolo : ℕ
-tremolo = 5
+abbrev pub tremolo : Option Effect
+tremolo = Some Tremolo
 
 -- the first byte of the field, its bytes, the formula, the least number, the highest value, the effect that must be selected
-abbrev pub row_as : ℕ → ℕ → ℕ → ℕ → ℕ → ℕ → Row
+abbrev pub row_as : ℕ → ℕ → Formula → ℕ → ℕ → Option Effect → Row
 row_as place width formula least highest effect =
     record { place = place; width = width; formula = formula; least = least; highest = highest; effect = effect }
 
@@ -66,7 +69,7 @@ pub record Line : Type 0 where
   pub stands : Kind → Bool
   pub entry : Entry Row
 
-abbrev pub row : (Kind → Bool) → ℕ → ℕ → ℕ → ℕ → ℕ → ℕ → ℕ → Line
+abbrev pub row : (Kind → Bool) → ℕ → ℕ → ℕ → Formula → ℕ → ℕ → Option Effect → Line
 row stands controller place width formula least highest effect =
     record { stands = stands; entry = record { key = controller; value = row_as place width formula least highest effect } }
 
@@ -153,17 +156,21 @@ rows kind = standing kind table
 
 -- "a controller not in the table or above 127" has a row of no bytes
 abbrev pub unlisted : Row
-unlisted = row_as 0 0 0 0 0 none
+unlisted = row_as 0 0 as_received 0 0 none
 
 -- the row of a controller
 unfoldable pub row_of : Kind → ℕ → Row
 row_of kind controller = find unlisted controller (rows kind)
 
-abbrev pub selects : ℕ → ℕ → Entry ℕ
+-- the row, if the controller is in the table
+abbrev pub if_listed : Row → Option Row
+if_listed r = cond (eqb r.width 0) None (Some r)
+
+abbrev pub selects : ℕ → Option Effect → Entry (Option Effect)
 selects value effect = record { key = value; value = effect }
 
 -- "Byte 46 selects; any value not listed, 6 and 10 too, gives 19."
-unfoldable pub selections : List (Entry ℕ)
+unfoldable pub selections : List (Entry (Option Effect))
 selections =
     selects 14 swell ∷
     selects 7 compressor ∷
@@ -181,9 +188,19 @@ selections =
     selects 9 tremolo ∷
     []
 
-unfoldable pub effect_of : ℕ → ℕ
+unfoldable pub effect_of : ℕ → Option Effect
 effect_of byte46 = find none byte46 selections
 
+-- two effects are one
+abbrev pub same_effect : Option Effect → Option Effect → Bool
+same_effect (Some Swell) (Some Swell) = true
+same_effect (Some Compressor) (Some Compressor) = true
+same_effect (Some Chorus) (Some Chorus) = true
+same_effect (Some Rotary) (Some Rotary) = true
+same_effect (Some Tremolo) (Some Tremolo) = true
+same_effect one other = false
+
 -- a row's effect is selected, or it needs none
-unfoldable pub selected : ℕ → ℕ → Bool
-selected effect byte46 = cond (eqb effect none) true (eqb effect (effect_of byte46))
+unfoldable pub selected : Option Effect → ℕ → Bool
+selected None byte46 = true
+selected (Some effect) byte46 = same_effect (Some effect) (effect_of byte46)

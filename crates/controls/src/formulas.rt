@@ -1,150 +1,88 @@
 // The formulas, and the way back from a stored number.
-ghost use Rattle.std.specs.Prelude.{◌≡◌, ◌≤◌, ◌+◌};
-ghost use Rattle.controls.specs.Formulas.{m_upper, m_lower, number_for, m_of, next_for};
-ghost use Rattle.controls.specs.Private.{SaneForSome, divisor_of, column_of};
+ghost use Rattle.std.specs.Prelude.{◌≡◌, ◌≤◌, ◌+◌, ◌/◌, ℕ};
+ghost use Rattle.controls.specs.Formulas.{number_for, m_of, next_for};
 ghost use Rattle.controls.specs.Showing.{smallest, seven_bits, shown_of};
 
-use crate::sheet::{first_on_sheet, on_sheet};
-use crate::{Reading, Row};
+use crate::Formula;
+use crate::control::Control;
+use ground::Refusal;
 
-pub(crate) const V_64: u8 = 0;
-
-pub(crate) const V_2: u8 = 1;
-
-pub(crate) const AS_RECEIVED: u8 = 2;
-
-pub(crate) const THRESHOLD: u8 = 3;
-
-pub(crate) const M_UPPER: u8 = 4;
-
-pub(crate) const M_LOWER: u8 = 5;
-
-pub(crate) const V_22: u8 = 6;
-
-pub(crate) const V_50: u8 = 7;
-
-pub(crate) const V_256_104: u8 = 8;
-
-pub(crate) const V_256_42: u8 = 9;
-
-pub(crate) const V_22_100: u8 = 10;
-
-pub(crate) const V_25: u8 = 11;
-
-// What a formula divides by; 0 where it does not divide.
-pub(crate) fn divisor_of(formula: u8) -> u8
-    ensures { result ≡ divisor_of formula }
-{
-    match formula {
-        V_64 => 64,
-        V_2 => 2,
-        AS_RECEIVED => 1,
-        V_22 => 22,
-        _ => 0,
+impl Control {
+    // The number for v. The formulas of m need a stored number: they give none here.
+    pub(crate) fn number(self, v: u16) -> u16
+        requires { v ≤ 127 }
+        ensures { result ≡ number_for self.row v }
+    {
+        match self.row.formula {
+            Formula::AsReceived => v,
+            Formula::Quotient(divisor) => v / divisor as u16,
+            Formula::OnSheet(column) => column.number(v),
+            Formula::MUpper | Formula::MLower => 0,
+        }
     }
-}
 
-// The formula's column of the sheet, of those that have one.
-fn column_of(formula: u8) -> usize
-    ensures { (result ≡ column_of formula) × (result ≤ 5) }
-{
-    match formula {
-        V_50 => 1,
-        V_256_104 => 2,
-        V_256_42 => 3,
-        V_22_100 => 4,
-        V_25 => 5,
-        _ => 0,
+    // The number to store for v where `stored` stands.
+    #[tactic(auto, unfolding(crate::specs::Formulas::m_of, crate::specs::Formulas::next_for))]
+    pub(crate) fn next(self, v: u16, stored: u32) -> u32
+        requires { v ≤ 127 }
+        ensures { result ≡ next_for self.row v stored }
+    {
+        let m = m_of(stored);
+        match self.row.formula {
+            Formula::MUpper => 6 * (v as u32 * 128 + m % 128),
+            Formula::MLower => 6 * (m / 128 * 128 + v as u32),
+            _ => self.number(v) as u32,
+        }
     }
-}
 
-// The row's number for v: a quotient, or from its formula's column of the sheet.
-pub(crate) fn number_for(row: Row, divisor: u8, v: u16) -> u16
-    requires sane_for_some { SaneForSome row × (divisor ≡ divisor_of row.formula) }
-    requires fact { (row.formula ≡ m_upper → ⊥) × (row.formula ≡ m_lower → ⊥) }
-    requires v_bound { v ≤ 127 }
-    ensures { result ≡ number_for row v }
-{
-    if divisor == 0 {
-        return on_sheet(column_of(row.formula), v);
+    // The value that shows a stored number.
+    #[tactic(auto, unfolding(crate::specs::Formulas::m_of, crate::specs::Showing::shown_of))]
+    pub(crate) fn shown(self, stored: u32) -> Result<u16, Refusal>
+        ensures { result ≡ shown_of self.row stored }
+    {
+        let m = m_of(stored);
+        match self.row.formula {
+            Formula::AsReceived => self.multiple(1, stored),
+            Formula::Quotient(divisor) => self.multiple(divisor, stored),
+            Formula::OnSheet(column) => column.first(stored),
+            Formula::MUpper => seven_bits(stored, m, m / 128),
+            Formula::MLower => seven_bits(stored, m, m % 128),
+        }
     }
-    v / divisor as u16
+
+    // The smallest value of a quotient is the divisor that many times.
+    fn multiple(self, divisor: u8, stored: u32) -> Result<u16, Refusal>
+        requires some { 1 ≤ divisor }
+        requires quotient { (v : ℕ) → number_for self.row v ≡ v / divisor }
+        ensures { result ≡ smallest self.row stored (self.row.highest + 1) 0 }
+    {
+        let v = stored as u64 * divisor as u64;
+        if v <= self.row.highest as u64 {
+            Ok(v as u16)
+        } else {
+            Err(Refusal::NoneGives)
+        }
+    }
 }
 
 // m of a stored number.
+#[tactic(auto, unfolding(crate::specs::Formulas::m_of))]
 fn m_of(stored: u32) -> u32
     ensures { result ≡ m_of stored }
 {
-    let m = stored / 6;
-    if 16383 < m { 16383 } else { m }
-}
-
-// The number to store for v where `stored` stands.
-pub(crate) fn next(row: Row, divisor: u8, v: u16, stored: u32) -> u32
-    requires sane_for_some { SaneForSome row × (divisor ≡ divisor_of row.formula) }
-    requires v_bound { v ≤ 127 }
-    ensures { result ≡ next_for row v stored }
-{
-    let m = m_of(stored);
-    if row.formula == M_UPPER {
-        return 6 * (v as u32 * 128 + m % 128);
-    }
-    if row.formula == M_LOWER {
-        return 6 * (m / 128 * 128 + v as u32);
-    }
-    number_for(row, divisor, v) as u32
-}
-
-// The value that shows a stored number.
-pub(crate) fn shown(row: Row, divisor: u8, stored: u32) -> Reading
-    requires { SaneForSome row × (divisor ≡ divisor_of row.formula) }
-    ensures { result ≡ shown_of row stored }
-{
-    if divisor == 0 {
-        return shown_undivided(row, stored);
-    }
-    multiple(row, divisor, stored)
-}
-
-// The smallest value of a quotient is the divisor that many times.
-fn multiple(row: Row, divisor: u8, stored: u32) -> Reading
-    requires { SaneForSome row × (divisor ≡ divisor_of row.formula) × (1 ≤ divisor) }
-    ensures { result ≡ smallest row stored (row.highest + 1) 0 }
-{
-    let v = stored as u64 * divisor as u64;
-    if v <= row.highest as u64 {
-        return Reading::Value(v as u16);
-    }
-    Reading::Refused(40)
-}
-
-// By the formulas of m, or from the sheet. The search of the sheet has two callers: called once, it would be built into
-// this call, and the sheet into the stack of every showing back.
-fn shown_undivided(row: Row, stored: u32) -> Reading
-    requires { SaneForSome row × (divisor_of row.formula ≡ 0) }
-    ensures { result ≡ shown_of row stored }
-{
-    let m = m_of(stored);
-    if row.formula == M_UPPER {
-        return seven_bits(stored, m, m / 128);
-    }
-    if row.formula == M_LOWER {
-        return seven_bits(stored, m, m % 128);
-    }
-    if row.formula == THRESHOLD {
-        return first_on_sheet(0, stored);
-    }
-    first_on_sheet(column_of(row.formula), stored)
+    (stored / 6).min(16383)
 }
 
 // Seven bits of m, where the stored number is 6 x m.
-fn seven_bits(stored: u32, m: u32, bits: u32) -> Reading
+#[tactic(auto, unfolding(crate::specs::Formulas::m_of))]
+fn seven_bits(stored: u32, m: u32, bits: u32) -> Result<u16, Refusal>
     requires m_value { m ≡ m_of stored }
     requires bits_bound { bits ≤ 127 }
     ensures { result ≡ seven_bits stored bits }
 {
     if stored == 6 * m {
-        return Reading::Value(bits as u16);
+        Ok(bits as u16)
+    } else {
+        Err(Refusal::NoneGives)
     }
-    Reading::Refused(40)
 }

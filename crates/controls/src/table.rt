@@ -1,202 +1,151 @@
-// The table of each kind of unit, row by row in the documents' order. The compiler makes columns of the arms; of constant
-// columns it would write out a copy at every call.
-ghost use Rattle.std.specs.Prelude.{◌≡◌};
+// The table of each kind of unit, row by row in the documents' order.
+ghost use Rattle.std.specs.Prelude.{◌≡◌, Some};
 ghost use Rattle.kinds.specs.declared.Kind.TheVariants.{Pod, BassPod};
-ghost use Rattle.controls.specs.Table.{row_as, row_of, effect_of, selected};
-ghost use Rattle.controls.specs.Private.{packed_of, row_in, divisor_in};
+ghost use Rattle.controls.specs.Table.{row_as, row_of, if_listed, effect_of, selected};
 
-use crate::formulas::{
-    AS_RECEIVED, M_LOWER, M_UPPER, THRESHOLD, V_2, V_22, V_22_100, V_25, V_50, V_64, V_256_42,
-    V_256_104,
-};
-use crate::{Row, formulas};
+use crate::Column::{Threshold, Times22Plus100, Times25, Times50, Times256Over42, Times256Over104};
+use crate::Effect::{Chorus, Compressor, Rotary, Swell, Tremolo};
+use crate::Formula::{AsReceived, MLower, MUpper, OnSheet, Quotient};
+use crate::{Effect, Formula, Row};
 use kinds::Kind;
 
-// The effects that share bytes 48 to 54.
-const NONE: u8 = 0;
-
-const SWELL: u8 = 1;
-
-const COMPRESSOR: u8 = 2;
-
-const CHORUS: u8 = 3;
-
-const ROTARY: u8 = 4;
-
-const TREMOLO: u8 = 5;
-
-// A row, and what its formula divides by: 0 where it does not divide.
-#[derive(Clone, Copy)]
-pub(crate) struct Found {
-    pub row: Row,
-    pub divisor: u8,
-}
-
-// The row of a controller of a kind.
-pub fn row_of(controller: u32, kind: Kind) -> Row
-    ensures { result ≡ row_of kind controller }
+fn row(
+    place: u8,
+    width: u8,
+    formula: Formula,
+    least: u8,
+    highest: u8,
+    effect: Option<Effect>,
+) -> Option<Row>
+    ensures { result ≡ Some (row_as place width formula least highest effect) }
 {
-    let found = unpacked(packed_row(controller, kind));
-    found.row
+    Some(Row {
+        place,
+        width,
+        formula,
+        least,
+        highest,
+        effect,
+    })
 }
 
-// A row and its divisor from the one number.
-pub(crate) fn unpacked(packed: u64) -> Found
-    ensures { (result.row ≡ row_in packed) × (result.divisor ≡ divisor_in packed) }
-{
-    let second = packed / 256;
-    let third = second / 256;
-    let fourth = third / 256;
-    let fifth = fourth / 256;
-    let sixth = fifth / 256;
-    Found {
-        row: Row {
-            place: (packed % 256) as u8,
-            width: (second % 256) as u8,
-            formula: (third % 256) as u8,
-            least: (fourth % 256) as u8,
-            highest: (fifth % 256) as u8,
-            effect: (sixth % 256) as u8,
-        },
-        divisor: (sixth / 256 % 256) as u8,
-    }
-}
-
-// A row as one number, a byte for each of its columns and one for what its formula divides by: a struct would come back
-// through memory.
-fn row(place: u8, width: u8, formula: u8, least: u8, highest: u8, effect: u8) -> u64
-    ensures { result ≡ packed_of (row_as place width formula least highest effect) }
-{
-    let sixth = effect as u64 + 256 * formulas::divisor_of(formula) as u64;
-    let fourth = least as u64 + 256 * (highest as u64 + 256 * sixth);
-    place as u64 + 256 * (width as u64 + 256 * (formula as u64 + 256 * fourth))
-}
-
-// The same as one number. A POD Pro has two rows of its own, and goes on as a POD: the POD's rows have one caller, so
-// that the compiler keeps them in this function. It has several itself, so that it stays a short call.
-pub(crate) fn packed_row(controller: u32, kind: Kind) -> u64
-    ensures { result ≡ packed_of (row_of kind controller) }
+// The row of a controller of a kind, if it has one. A POD Pro has two rows of its own, and goes on as a POD.
+#[tactic(auto, unfolding(crate::specs::Table::row_of, crate::specs::Table::table, kinds::specs::Kinds::highest_model), using(ground::proofs::Tests::tests))]
+pub fn row_of(controller: u32, kind: Kind) -> Option<Row>
+    ensures { result ≡ if_listed (row_of kind controller) }
 {
     match kind {
-        Kind::Pod => {}
-        Kind::BassPod => return bass_row(controller),
+        Kind::Pod => pod_row(controller),
+        Kind::BassPod => bass_row(controller),
         Kind::PodPro => match controller {
-            12 => return row(8, 1, AS_RECEIVED, 0, 31, NONE),
-            9 => return row(35, 1, V_2, 0, 127, NONE),
-            _ => {}
+            12 => row(8, 1, AsReceived, 0, 31, None),
+            9 => row(35, 1, Quotient(2), 0, 127, None),
+            _ => pod_row(controller),
         },
     }
-    pod_row(controller)
 }
 
 // The 49 controllers of a POD: the first byte of the field, the bytes, the formula, the least number, the highest value,
 // the effect.
-fn pod_row(controller: u32) -> u64
-    ensures { result ≡ packed_of (row_of Pod controller) }
+#[tactic(auto, unfolding(crate::specs::Table::row_of, crate::specs::Table::table, kinds::specs::Kinds::highest_model), using(ground::proofs::Tests::tests))]
+fn pod_row(controller: u32) -> Option<Row>
+    ensures { result ≡ if_listed (row_of Pod controller) }
 {
     match controller {
-        25 => row(0, 1, V_64, 0, 127, NONE),
-        26 => row(1, 1, V_64, 0, 127, NONE),
-        27 => row(2, 1, V_64, 0, 127, NONE),
-        28 => row(3, 1, V_64, 0, 127, NONE),
-        50 => row(4, 1, V_64, 0, 127, NONE),
-        36 => row(5, 1, V_64, 0, 127, NONE),
-        22 => row(6, 1, V_64, 0, 127, NONE),
-        73 => row(7, 1, V_64, 0, 127, NONE),
-        47 => row(24, 1, V_64, 0, 127, NONE),
-        37 => row(38, 1, V_64, 0, 127, NONE),
-        13 => row(9, 1, V_2, 0, 127, NONE),
-        20 => row(10, 1, V_2, 0, 127, NONE),
-        14 => row(11, 1, V_2, 0, 127, NONE),
-        15 => row(12, 1, V_2, 0, 127, NONE),
-        16 => row(13, 1, V_2, 0, 127, NONE),
-        21 => row(14, 1, V_2, 0, 127, NONE),
-        17 => row(15, 1, V_2, 0, 127, NONE),
-        24 => row(17, 1, V_2, 0, 127, NONE),
-        32 => row(34, 1, V_2, 0, 127, NONE),
-        34 => row(36, 1, V_2, 0, 127, NONE),
-        38 => row(39, 1, V_2, 0, 127, NONE),
-        39 => row(40, 1, V_2, 0, 127, NONE),
-        40 => row(41, 1, V_2, 0, 127, NONE),
-        41 => row(42, 1, V_2, 0, 127, NONE),
-        18 => row(43, 1, V_2, 0, 127, NONE),
-        72 => row(45, 1, V_2, 0, 127, NONE),
-        1 => row(47, 1, V_2, 0, 127, NONE),
-        4 => row(18, 1, AS_RECEIVED, 0, 127, NONE),
-        44 => row(19, 1, AS_RECEIVED, 0, 127, NONE),
-        45 => row(20, 1, AS_RECEIVED, 0, 127, NONE),
-        7 => row(22, 1, AS_RECEIVED, 0, 127, NONE),
-        46 => row(23, 1, AS_RECEIVED, 0, 127, NONE),
-        12 => row(8, 1, AS_RECEIVED, 0, 27, NONE),
-        71 => row(44, 1, AS_RECEIVED, 0, 15, NONE),
-        19 => row(46, 1, AS_RECEIVED, 0, 15, NONE),
-        23 => row(16, 1, THRESHOLD, 0, 127, NONE),
-        30 => row(26, 3, M_UPPER, 0, 127, NONE),
-        62 => row(26, 3, M_LOWER, 0, 127, NONE),
-        49 => row(48, 1, V_2, 0, 127, SWELL),
-        42 => row(48, 1, V_22, 0, 127, COMPRESSOR),
-        51 => row(48, 2, V_50, 200, 127, CHORUS),
-        52 => row(50, 2, V_256_104, 0, 127, CHORUS),
-        53 => row(52, 1, AS_RECEIVED, 0, 127, CHORUS),
-        54 => row(53, 2, V_256_42, 1, 127, CHORUS),
-        55 => row(48, 1, V_64, 0, 127, ROTARY),
-        56 => row(49, 2, V_22_100, 0, 127, ROTARY),
-        57 => row(51, 2, V_22_100, 0, 127, ROTARY),
-        58 => row(48, 2, V_25, 150, 127, TREMOLO),
-        59 => row(50, 1, AS_RECEIVED, 0, 127, TREMOLO),
-        _ => row(0, 0, 0, 0, 0, NONE),
+        25 => row(0, 1, Quotient(64), 0, 127, None),
+        26 => row(1, 1, Quotient(64), 0, 127, None),
+        27 => row(2, 1, Quotient(64), 0, 127, None),
+        28 => row(3, 1, Quotient(64), 0, 127, None),
+        50 => row(4, 1, Quotient(64), 0, 127, None),
+        36 => row(5, 1, Quotient(64), 0, 127, None),
+        22 => row(6, 1, Quotient(64), 0, 127, None),
+        73 => row(7, 1, Quotient(64), 0, 127, None),
+        47 => row(24, 1, Quotient(64), 0, 127, None),
+        37 => row(38, 1, Quotient(64), 0, 127, None),
+        13 => row(9, 1, Quotient(2), 0, 127, None),
+        20 => row(10, 1, Quotient(2), 0, 127, None),
+        14 => row(11, 1, Quotient(2), 0, 127, None),
+        15 => row(12, 1, Quotient(2), 0, 127, None),
+        16 => row(13, 1, Quotient(2), 0, 127, None),
+        21 => row(14, 1, Quotient(2), 0, 127, None),
+        17 => row(15, 1, Quotient(2), 0, 127, None),
+        24 => row(17, 1, Quotient(2), 0, 127, None),
+        32 => row(34, 1, Quotient(2), 0, 127, None),
+        34 => row(36, 1, Quotient(2), 0, 127, None),
+        38 => row(39, 1, Quotient(2), 0, 127, None),
+        39 => row(40, 1, Quotient(2), 0, 127, None),
+        40 => row(41, 1, Quotient(2), 0, 127, None),
+        41 => row(42, 1, Quotient(2), 0, 127, None),
+        18 => row(43, 1, Quotient(2), 0, 127, None),
+        72 => row(45, 1, Quotient(2), 0, 127, None),
+        1 => row(47, 1, Quotient(2), 0, 127, None),
+        4 => row(18, 1, AsReceived, 0, 127, None),
+        44 => row(19, 1, AsReceived, 0, 127, None),
+        45 => row(20, 1, AsReceived, 0, 127, None),
+        7 => row(22, 1, AsReceived, 0, 127, None),
+        46 => row(23, 1, AsReceived, 0, 127, None),
+        12 => row(8, 1, AsReceived, 0, 27, None),
+        71 => row(44, 1, AsReceived, 0, 15, None),
+        19 => row(46, 1, AsReceived, 0, 15, None),
+        23 => row(16, 1, OnSheet(Threshold), 0, 127, None),
+        30 => row(26, 3, MUpper, 0, 127, None),
+        62 => row(26, 3, MLower, 0, 127, None),
+        49 => row(48, 1, Quotient(2), 0, 127, Some(Swell)),
+        42 => row(48, 1, Quotient(22), 0, 127, Some(Compressor)),
+        51 => row(48, 2, OnSheet(Times50), 200, 127, Some(Chorus)),
+        52 => row(50, 2, OnSheet(Times256Over104), 0, 127, Some(Chorus)),
+        53 => row(52, 1, AsReceived, 0, 127, Some(Chorus)),
+        54 => row(53, 2, OnSheet(Times256Over42), 1, 127, Some(Chorus)),
+        55 => row(48, 1, Quotient(64), 0, 127, Some(Rotary)),
+        56 => row(49, 2, OnSheet(Times22Plus100), 0, 127, Some(Rotary)),
+        57 => row(51, 2, OnSheet(Times22Plus100), 0, 127, Some(Rotary)),
+        58 => row(48, 2, OnSheet(Times25), 150, 127, Some(Tremolo)),
+        59 => row(50, 1, AsReceived, 0, 127, Some(Tremolo)),
+        _ => None,
     }
 }
 
 // The ten of a Bass POD.
-fn bass_row(controller: u32) -> u64
-    ensures { result ≡ packed_of (row_of BassPod controller) }
+#[tactic(auto, unfolding(crate::specs::Table::row_of, crate::specs::Table::table, kinds::specs::Kinds::highest_model), using(ground::proofs::Tests::tests))]
+fn bass_row(controller: u32) -> Option<Row>
+    ensures { result ≡ if_listed (row_of BassPod controller) }
 {
     match controller {
-        12 => row(3, 1, AS_RECEIVED, 0, 15, NONE),
-        19 => row(49, 1, AS_RECEIVED, 0, 15, NONE),
-        64 => row(2, 1, V_64, 0, 127, NONE),
-        13 => row(4, 1, V_2, 0, 127, NONE),
-        14 => row(6, 1, V_2, 0, 127, NONE),
-        15 => row(7, 1, V_2, 0, 127, NONE),
-        16 => row(8, 1, V_2, 0, 127, NONE),
-        17 => row(10, 1, V_2, 0, 127, NONE),
-        18 => row(11, 1, V_2, 0, 127, NONE),
-        1 => row(50, 1, V_2, 0, 127, NONE),
-        _ => row(0, 0, 0, 0, 0, NONE),
+        12 => row(3, 1, AsReceived, 0, 15, None),
+        19 => row(49, 1, AsReceived, 0, 15, None),
+        64 => row(2, 1, Quotient(64), 0, 127, None),
+        13 => row(4, 1, Quotient(2), 0, 127, None),
+        14 => row(6, 1, Quotient(2), 0, 127, None),
+        15 => row(7, 1, Quotient(2), 0, 127, None),
+        16 => row(8, 1, Quotient(2), 0, 127, None),
+        17 => row(10, 1, Quotient(2), 0, 127, None),
+        18 => row(11, 1, Quotient(2), 0, 127, None),
+        1 => row(50, 1, Quotient(2), 0, 127, None),
+        _ => None,
     }
 }
 
-// The effect that byte 46 selects.
-fn effect_of(byte46: u8) -> u8
-    ensures { result ≡ effect_of byte46 }
-{
-    match byte46 {
-        14 => SWELL,
-        7 => COMPRESSOR,
-        11 => COMPRESSOR,
-        0 => CHORUS,
-        1 => CHORUS,
-        3 => CHORUS,
-        4 => CHORUS,
-        8 => CHORUS,
-        12 => CHORUS,
-        13 => CHORUS,
-        15 => CHORUS,
-        2 => ROTARY,
-        5 => TREMOLO,
-        9 => TREMOLO,
-        _ => NONE,
+impl Effect {
+    // The effect that byte 46 selects.
+    #[tactic(auto, unfolding(crate::specs::Table::effect_of, crate::specs::Table::selections), using(ground::proofs::Tests::tests))]
+    fn selected_by(byte46: u8) -> Option<Effect>
+        ensures { result ≡ effect_of byte46 }
+    {
+        match byte46 {
+            14 => Some(Swell),
+            7 | 11 => Some(Compressor),
+            0 | 1 | 3 | 4 | 8 | 12 | 13 | 15 => Some(Chorus),
+            2 => Some(Rotary),
+            5 | 9 => Some(Tremolo),
+            _ => None,
+        }
     }
 }
 
 // Whether a row's effect is the selected one, or it needs none.
-pub(crate) fn is_selected(effect: u8, byte46: u8) -> bool
+#[tactic(auto, unfolding(crate::specs::Table::selected))]
+pub(crate) fn is_selected(effect: Option<Effect>, byte46: u8) -> bool
     ensures { result ≡ selected effect byte46 }
 {
-    if effect == NONE {
-        return true;
-    }
-    let chosen = effect_of(byte46);
-    effect == chosen
+    effect.is_none() || effect == Effect::selected_by(byte46)
 }

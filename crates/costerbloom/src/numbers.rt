@@ -1,10 +1,12 @@
-// Settings from numbers, and answers as single numbers.
+// The C interface: settings from the numbers that C hands over, and answers as single numbers. These are functions and no
+// `From`, for the types on either side are not this crate's.
 ghost use Rattle.std.specs.Prelude.{◌≡◌};
 ghost use Rattle.costerbloom.specs.Numbers.{settings_of, packed, reading_number};
 
-use controls::Reading;
-use sysex::{Answer, Settings};
+use ground::Refusal;
+use sysex::{Answered, Settings};
 
+// C hands them over one by one.
 pub(crate) fn settings(
     channel: u8,
     omni: u8,
@@ -26,7 +28,7 @@ pub(crate) fn settings(
 }
 
 // The number in bits 0 to 7, the reply length in bits 8 to 23.
-pub(crate) fn packed(answer: Answer) -> u64
+pub(crate) fn packed(answer: Answered) -> u64
     ensures { result ≡ packed answer }
 {
     let number = sysex::answer_number(answer) as u64;
@@ -35,11 +37,11 @@ pub(crate) fn packed(answer: Answer) -> u64
 }
 
 // A value as it is, a refusal above every value.
-pub(crate) fn reading_number(reading: Reading) -> u32
+pub(crate) fn reading_number(reading: Result<u16, Refusal>) -> u32
     ensures { result ≡ reading_number reading }
 {
     match reading {
-        Reading::Value(value) => value as u32,
-        Reading::Refused(number) => 65536 + number as u32,
+        Ok(value) => value as u32,
+        Err(refusal) => 65536 + u8::from(refusal) as u32,
     }
 }

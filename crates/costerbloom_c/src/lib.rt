@@ -1,4 +1,5 @@
-// The C interface: crate costerbloom's seven functions, exported under the names that include/costerbloom.h declares.
+// The C interface: crate costerbloom's seven functions, exported under the names that include/costerbloom.h declares. Their
+// signatures and contracts stand twice, for a crate is a library, which others stand on, or a static library.
 #![tactic(auto)]
 
 ghost use Rattle.std.specs.Prelude.{◌≡◌, List, ℕ};

@@ -1,6 +1,8 @@
 -- The judge accepts every dump, every request and every identity request that is ours, as its format says.
+use Rattle.std.proofs.Math.Bool.{or-true, and-false}
+use Rattle.std.specs.Prelude.{Ok}
 use Prim.Native.Nat.{ℕ, suc, ◌+◌, ◌*◌, ◌≤◌}
-use mathlib.Core.Bool.{Bool, true, false, ◌&&◌, ◌||◌}
+use mathlib.Core.Bool.{Bool, true, false, ◌||◌}
 use mathlib.Core.List.{List, ◌∷◌}
 use mathlib.Core.Path.{◌≡◌, refl}
 use native.Mathlib.Omega.{arith}
@@ -10,7 +12,7 @@ use borrow.Author.Tests.{le-leb, eq-eqb}
 use Rattle.ground.specs.Lists.{all_at_most}
 use Rattle.halves.proofs.Laws.{length-split, split_halves}
 use Rattle.sysex.specs.declared.Settings.{Settings}
-use Rattle.sysex.specs.declared.Order.TheVariants.{Identify}
+use Rattle.sysex.specs.declared.Order.TheVariants.{Identify, Send, Store}
 use Rattle.kinds.specs.declared.Kind.{Kind}
 use Rattle.kinds.specs.Kinds.{has_spare, device_of}
 use Rattle.programs.specs.Memory.{program_count, last_program}
@@ -19,15 +21,7 @@ use Rattle.programs.specs.declared.Target.TheVariants.{One, Edit, All}
 use Rattle.programs.specs.Held.{sent_size, sent_for}
 use Rattle.sysex.specs.Forms.{request_body, dump_body, identity_body, body_length, shortest, is_identity, is_our_channel}
 use Rattle.sysex.specs.Judging.{has_form, has_program, further_tests, order_of, body_order, judge_of}
-use Rattle.sysex.specs.Formats.{There, send_order, store_order}
-
-or-true : (a : Bool) → (a || true) ≡ true
-or-true true = refl
-or-true false = refl
-
-and-false : (a : Bool) → (a && false) ≡ false
-and-false true = refl
-and-false false = refl
+use Rattle.sysex.specs.Formats.{There}
 
 -- nothing that begins F0 00 is an identity request
 pub no_identity : (rest : List ℕ) → is_identity (0xF0 ∷ 0x00 ∷ rest) ≡ false
@@ -38,7 +32,7 @@ module _ (kind : Kind) (settings : Settings) where
   same : eqb (device_of kind) (device_of kind) ≡ true
   same = eq-eqb (device_of kind) (device_of kind) refl
 
-  pub request_judged : (t : Target) → There t → judge_of kind settings (request_body kind t) ≡ send_order t
+  pub request_judged : (t : Target) → There t → judge_of kind settings (request_body kind t) ≡ Ok (Send t)
   unfolding judge_of has_form further_tests body_length has_program body_order order_of
   request_judged (One p) h = rw (no_identity (drop 2 (request_body kind (One p))), same, le-leb p last_program h)
   request_judged Edit h = rw (no_identity (drop 2 (request_body kind Edit)), same)
@@ -53,7 +47,7 @@ module _ (kind : Kind) (settings : Settings) where
         go true s e = rw (eq-eqb n (counts true) e)
         go false s e = rw (s refl, eq-eqb n (counts false) e) (or-true (eqb n (counts true)))
 
-    pub dump_judged : (t : Target) → There t → length bytes ≡ sent_for kind long t → judge_of kind settings (dump_body kind t bytes) ≡ store_order t
+    pub dump_judged : (t : Target) → There t → length bytes ≡ sent_for kind long t → judge_of kind settings (dump_body kind t bytes) ≡ Ok (Store t)
     unfolding judge_of has_form further_tests body_length has_program body_order order_of
     dump_judged (One p) h e =
         let l = length-split bytes in
@@ -84,6 +78,6 @@ module _ (kind : Kind) (settings : Settings) where
           split_halves bytes low,
         )
 
-  pub identity_judged : (cc : ℕ) → cc ≤ 0x7F → is_our_channel settings cc ≡ true → judge_of kind settings (identity_body cc) ≡ Identify cc
+  pub identity_judged : (cc : ℕ) → cc ≤ 0x7F → is_our_channel settings cc ≡ true → judge_of kind settings (identity_body cc) ≡ Ok (Identify cc)
   unfolding judge_of has_form further_tests body_order is_identity
   identity_judged cc h o = rw (le-leb cc 0x7F h, eq-eqb cc cc refl, o)

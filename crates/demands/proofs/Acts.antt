@@ -1,4 +1,7 @@
 -- What a player's message does, as it goes by the programs and the player's edit buffer alone: it leaves all, or writes that buffer, or writes programs.
+use Rattle.sysex.specs.Numbers.{Answered}
+use Rattle.sysex.specs.declared.Check.{Check}
+use Rattle.std.specs.Prelude.{Result, Ok}
 use Prim.Native.Nat.{ℕ, ◌-◌, ◌≤◌}
 use mathlib.Core.Bool.{Bool, true, false, cond}
 use mathlib.Core.List.{List, []}
@@ -27,7 +30,6 @@ use Rattle.sockets.specs.Framer.{Message, SysEx, TooLong, Channel}
 use Rattle.sockets.specs.Box.{Said, said, said_of}
 use Rattle.sysex.specs.declared.Settings.{Settings}
 use Rattle.sysex.specs.declared.Order.{Order}
-use Rattle.sysex.specs.declared.Answer.{Answer}
 use Rattle.sysex.specs.declared.Answer.TheVariants.{Stored, Sent}
 use Rattle.sysex.specs.Forms.{type_for, data_place, dump_body, is_long, ended}
 use Rattle.sysex.specs.Judging.{judge_of}
@@ -38,7 +40,7 @@ use Rattle.podbox.specs.Messages.{is_controller, channel_tests, change_answer, c
 use Rattle.podbox.specs.Whole.{body_of, message_order, handed_does}
 use Rattle.podbox.proofs.Taking.{change_numbered}
 use Rattle.demands.specs.Duo.{named_in, edit_in, programs_in, stores_programs, message_stores}
-use Rattle.demands.proofs.Forms.{send_does, message-meant}
+use Rattle.demands.proofs.Forms.{message-meant}
 use Rattle.demands.proofs.Named.{Firm, IsProgram, Fills, write_in, program-named, named-filled}
 
 module _ (kind : Kind) (player : Player) where
@@ -69,10 +71,10 @@ module _ (kind : Kind) (player : Player) where
   same_named All h a b f g shared own = sym (program-named kind player a f All (tt, tt)) ∙ ap (named_in kind player All) shared ∙ program-named kind player b g All (tt, tt)
 
   -- the dump that goes out of what is named
-  abbrev dump_said : Target → Held → Said Answer
+  abbrev dump_said : Target → Held → Said Answered
   dump_said t named =
       let bytes = ended (dump_body kind t (cond (cond (has_spare kind) (all_set named.marks) true) named.memory (without_spares (size_of kind) (slots_for t) named.memory))) in
-      said (Sent (length bytes)) bytes
+      said (Ok (Sent (length bytes))) bytes
 
   -- a dump writes its bytes, and marks where the kind has some
   abbrev brought : Target → Bool → List ℕ → Held → Held
@@ -102,7 +104,7 @@ module _ (kind : Kind) (settings : Settings) (player : Player) where
 
   -- a dump of a program, or of all of them
   store_acts : (t : Target) → IsProgram t → (body bytes : List ℕ) (long : Bool) (Does : Held → Outcome) → IsDump kind t long bytes body
-      → ((held : Held) → Does held ≡ outcome Stored (store_in kind player t long bytes held) []) → Acts kind player true Does
+      → ((held : Held) → Does held ≡ outcome (Ok Stored) (store_in kind player t long bytes held) []) → Acts kind player true Does
   store_acts t h body bytes long Does d does = record {
     effect = stores t h refl (λ programs. brought kind player t long bytes (named_in kind player t programs))
         (λ held firm.
@@ -114,15 +116,13 @@ module _ (kind : Kind) (settings : Settings) (player : Player) where
     said_by = λ a b _ _ _ _. ap said_of (does a) ∙ sym (ap said_of (does b));
   }
 
-  order_acts : (body : List ℕ) (o : Order) → Meant kind settings body o → Acts kind player (stores_programs o) (order_does kind settings player o body)
+  order_acts : (body : List ℕ) (o : Result Order Check) → Meant kind settings body o → Acts kind player (stores_programs o) (order_does kind settings player o body)
   unfolding order_does
   order_acts body o (identity channel i) = quiet kind player (λ _. refl) (λ _ _. refl)
   order_acts body o (asked t q) = record {
-    effect = rests (λ held. ap (λ (o : Outcome). o.held) (send_does kind settings player t body held));
+    effect = rests (λ held. refl);
     said_by = λ a b f g shared own.
-        ap said_of (send_does kind settings player t body a)
-        ∙ ap (dump_said kind player t) (same_named kind player t q.there a b f g shared own)
-        ∙ sym (ap said_of (send_does kind settings player t body b));
+        ap (dump_said kind player t) (same_named kind player t q.there a b f g shared own);
   }
   order_acts body o (dumped (One p) d) = store_acts (One p) (tt, d.there) body _ _ _ d (λ _. refl)
   order_acts body o (dumped All d) = store_acts All (tt, tt) body _ _ _ d (λ _. refl)

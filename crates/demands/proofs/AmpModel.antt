@@ -1,5 +1,8 @@
 -- Which amp models are known: what C reads off the number, and that controller 12 takes these and no others.
-use Prim.Native.Nat.{ℕ, ◌+◌, ◌≤◌, ◌<◌, max}
+use Rattle.std.proofs.Math.Nat.{max-zero}
+use Rattle.std.specs.Prelude.{Ok, Err}
+use Rattle.ground.specs.declared.Refusal.TheVariants.{OutOfRange, Unsound}
+use Prim.Native.Nat.{ℕ, ◌+◌, ◌≤◌, ◌<◌}
 use mathlib.Core.Bool.{Bool, true, false, cond}
 use mathlib.Core.Logic.{◌↔◌}
 use mathlib.Core.Path.{◌≡◌, refl, sym, ◌∙◌}
@@ -8,7 +11,6 @@ use borrow.Author.Tests.{le-leb, lt-leb, leb-true, leb-false}
 use Rattle.kinds.specs.declared.Kind.{Kind}
 use Rattle.kinds.specs.declared.Kind.TheVariants.{Pod, BassPod, PodPro}
 use Rattle.kinds.specs.Kinds.{is_kind, kind_of, highest_model, is_known_model}
-use Rattle.controls.specs.declared.Reading.TheVariants.{Value, Refused}
 use Rattle.controls.specs.Formulas.{number_by, number_for}
 use Rattle.controls.specs.Table.{table, row_of}
 use Rattle.controls.specs.Scaling.{scale_of}
@@ -22,7 +24,7 @@ amp-told : (kind_number model : ℕ) → amp_number kind_number model ≡ told (
 unfolding amp_number amp_call reading_number
 amp-told kind_number model = as_told (is_kind kind_number) (is_known_model (kind_of kind_number) model)
   where
-    as_told : (a_kind known : Bool) → reading_number (cond a_kind (Value (cond known 1 0)) (Refused 32)) ≡ told a_kind known
+    as_told : (a_kind known : Bool) → reading_number (cond a_kind (Ok (cond known 1 0)) (Err Unsound)) ≡ told a_kind known
     as_told true true = refl
     as_told true false = refl
     as_told false known = refl
@@ -66,12 +68,9 @@ module _ (kind_number model : ℕ) where
     (λ none. amp-told kind_number model ∙ (rw none)),
   )
 
-as_it_is : (model : ℕ) → max model 0 ≡ model
-as_it_is model = omega arith
-
 -- Controller 12 takes the known models and no other value.
-pub known-taken : (kind : Kind) (model : ℕ) → scale_of kind 12 model ≡ cond (is_known_model kind model) (Value model) (Refused 18)
+pub known-taken : (kind : Kind) (model : ℕ) → scale_of kind 12 model ≡ cond (is_known_model kind model) (Ok model) (Err OutOfRange)
 unfolding scale_of row_of table number_for number_by is_known_model
-known-taken Pod model = rw (as_it_is model)
-known-taken BassPod model = rw (as_it_is model)
-known-taken PodPro model = rw (as_it_is model)
+known-taken Pod model = rw (max-zero model)
+known-taken BassPod model = rw (max-zero model)
+known-taken PodPro model = rw (max-zero model)

@@ -8,8 +8,7 @@ use Rattle.programs.specs.Held.{Held}
 use Rattle.framing.specs.declared.Receiver.{Receiver}
 use Rattle.sockets.specs.Box.{Took, took}
 use Rattle.sysex.specs.declared.Settings.{Settings}
-use Rattle.sysex.specs.declared.Answer.{Answer}
-use Rattle.sysex.specs.Numbers.{answer_number}
+use Rattle.sysex.specs.Numbers.{answer_number, Answered}
 use Rattle.podbox.specs.declared.Move.{Move}
 use Rattle.podbox.specs.Box.{take_of, whole_of, moves_of}
 use Rattle.costerbloom.specs.Numbers.{take_numbers, whole_numbers, moves_numbers}
@@ -18,7 +17,7 @@ use Rattle.demands.proofs.ToldApart.{take-told, whole-told, moves-told}
 
 pub take_as_box : (kind_number : ℕ) (settings : Settings) (socket : ℕ) (receiver : Receiver) (byte : ℕ) (held : Held) (receive reply : List ℕ) (r : Receiver) (n : ℕ) (m : Held) (x o : List ℕ)
     → took r n m x o ≡ take_numbers kind_number settings socket receiver byte held receive reply
-    → (answer : Answer) × (took r answer m x o ≡ take_of kind_number settings socket receiver byte held receive reply) × Told answer n
+    → (answer : Answered) × (took r answer m x o ≡ take_of kind_number settings socket receiver byte held receive reply) × Told answer n
 unfolding take_numbers
 take_as_box kind_number settings socket receiver byte held receive reply r n m x o e =
     let answer = (take_of kind_number settings socket receiver byte held receive reply).answer in (
@@ -29,7 +28,7 @@ take_as_box kind_number settings socket receiver byte held receive reply r n m x
 
 pub whole_as_box : (kind_number : ℕ) (settings : Settings) (player_number : ℕ) (message : List ℕ) (held : Held) (reply : List ℕ) (n : ℕ) (m : Held) (o : List ℕ)
     → left n m o ≡ whole_numbers kind_number settings player_number message held reply
-    → (answer : Answer) × (left answer m o ≡ whole_of kind_number settings player_number message held reply) × Told answer n
+    → (answer : Answered) × (left answer m o ≡ whole_of kind_number settings player_number message held reply) × Told answer n
 unfolding whole_numbers
 whole_as_box kind_number settings player_number message held reply n m o e =
     let answer = (whole_of kind_number settings player_number message held reply).answer in
@@ -37,7 +36,7 @@ whole_as_box kind_number settings player_number message held reply n m o e =
 
 pub moves_as_box : (kind_number : ℕ) (settings : Settings) (player_number : ℕ) (moves : List Move) (held : Held) (numbers : List ℕ) (n : ℕ) (m : Held) (o : List ℕ)
     → left n m o ≡ moves_numbers kind_number settings player_number moves held numbers
-    → (answer : Answer) × (left answer m o ≡ moves_of kind_number settings player_number moves held numbers) × (n ≡ answer_number answer)
+    → (answer : Answered) × (left answer m o ≡ moves_of kind_number settings player_number moves held numbers) × (n ≡ answer_number answer)
 unfolding moves_numbers
 moves_as_box kind_number settings player_number moves held numbers n m o e =
     let answer = (moves_of kind_number settings player_number moves held numbers).answer in

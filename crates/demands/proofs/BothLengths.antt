@@ -1,4 +1,9 @@
 -- Req 06: what a dump leaves, long or short; when a length is wrong; and that nothing but a dump moves a mark.
+use Rattle.sysex.specs.declared.Check.{Check}
+use Rattle.std.specs.Prelude.{Result, Err}
+use Rattle.ground.specs.Refusals.{refusal_number}
+use Rattle.ground.specs.declared.Refusal.TheVariants as refusal
+use Rattle.ground.specs.declared.Refusal.{Refusal}
 use Prim.Native.Nat.{ℕ, zero, suc, ◌+◌, ◌-◌, ◌*◌, ◌≤◌, ◌<◌}
 use mathlib.Core.Bool.{Bool, true, false, cond}
 use mathlib.Core.List.{List, [], ◌∷◌, ◌++◌, map}
@@ -30,10 +35,9 @@ use Rattle.sysex.specs.declared.Settings.{Settings}
 use Rattle.sysex.specs.declared.Check.{Check}
 use Rattle.sysex.specs.declared.Order.{Order}
 use Rattle.sysex.specs.Forms.{begins, opcode_of, type_of, request, dump, type_for, data_place, body_length, whole_length, shortest, dump_body, is_identity, ended}
-use Rattle.sysex.specs.Numbers.{refused, check_number}
+use Rattle.sysex.specs.Numbers.{refusal_for}
 use Rattle.sysex.specs.Judging.{has_form, is_known, has_length, further_tests, tests_of, identity_tests, form_tests, data_tests, body_order, judge_of}
 use Rattle.sysex.specs.Formats.{There, IsDump, Meant, identity, asked, dumped, unsaid}
-use Rattle.sysex.proofs.Numbered.{passed_done}
 use Rattle.carrying.specs.Carrying.{Outcome, refusing, storing, order_does, body_does}
 use Rattle.carrying.proofs.Numbered.{done_not_refused}
 use Rattle.carrying.proofs.Understands.{begun, halves_sent, data_behind, meant}
@@ -41,7 +45,7 @@ use Rattle.podbox.specs.Messages.{is_controller, channel_tests, channel_does, me
 use Rattle.podbox.specs.Whole.{handed_does}
 use Rattle.podbox.specs.Box.{socket_player, Delivered, FromPanel, FromList, box_rules}
 use Rattle.demands.specs.Marks.{brought_for, DumpLeaves, WrongLength, MovesMarks, MessageMoves, FinishMoves}
-use Rattle.demands.proofs.Forms.{store_does, send_does, named-inside}
+use Rattle.demands.proofs.Forms.{named-inside}
 use Rattle.demands.proofs.Accepts.{no_identity}
 use Rattle.demands.proofs.Marks.{slots_named}
 use Rattle.demands.proofs.InOrder.{in_order, checks_tested}
@@ -187,12 +191,12 @@ module _ (kind : Kind) (settings : Settings) (body : List ℕ) where
         not_short = λ e. eqb-false (length body) (length_of (shortest kind)) n.1 (omega (arith, whole_long));
       }
 
-  abbrev numbered : List (Test Check) → List (Test ℕ)
-  numbered ts = map (renamed check_number) ts
+  abbrev numbered : List (Test Check) → List (Test Refusal)
+  numbered ts = map (renamed refusal_for) ts
 
   -- of a test that fails first, if its number is 13
-  abbrev Is13 : ℕ → Type 0
-  Is13 n = n ≡ 13 → WrongLength kind body
+  abbrev Is13 : Refusal → Type 0
+  Is13 r = refusal_number r ≡ 13 → WrongLength kind body
 
   behind_ours : has_form kind body ≡ true → Names Is13 (numbered (further_tests kind settings body))
   unfolding further_tests has_form
@@ -211,10 +215,10 @@ module _ (kind : Kind) (settings : Settings) (body : List ℕ) where
         )),
       ))
 
-  first_wrong : FirstToFail (numbered (tests_of kind settings body)) 13 → WrongLength kind body
+  first_wrong : FirstToFail (numbered (tests_of kind settings body)) refusal.WrongLength → WrongLength kind body
   first_wrong f = first-named Is13 f ((λ _ e. absurd (omega arith)), behind_ours) refl
 
-  wrong_first : WrongLength kind body → FirstToFail (numbered (tests_of kind settings body)) 13
+  wrong_first : WrongLength kind body → FirstToFail (numbered (tests_of kind settings body)) refusal.WrongLength
   unfolding further_tests has_form
   wrong_first w =
       let other : is_identity body ≡ false = rw (begun (header_of kind) body w.ours) (no_identity _) in
@@ -222,13 +226,13 @@ module _ (kind : Kind) (settings : Settings) (body : List ℕ) where
       let short = ne_eqb (length body) (length_of (shortest kind)) (λ e. w.not_short (omega (arith, whole_long))) in
       let ours : has_form kind body ≡ true = rw (other, w.ours) in
       let wrong : has_length kind body ≡ false = rw (long, short) in
-      let rest : FirstToFail (numbered (further_tests kind settings body)) 13 = rw other (later _ w.known (here _ wrong)) in
+      let rest : FirstToFail (numbered (further_tests kind settings body)) refusal.WrongLength = rw other (later _ w.known (here _ wrong)) in
       later _ ours rest
 
-  pub wrong_length : (player : Player) (held : Held) → ((body_does kind settings player body held).answer ≡ refused 13) ↔ WrongLength kind body
+  pub wrong_length : (player : Player) (held : Held) → ((body_does kind settings player body held).answer ≡ Err refusal.WrongLength) ↔ WrongLength kind body
   unfolding judge_of
   wrong_length player held =
-      let order = in_order (numbered (tests_of kind settings body)) _ _ 13 (done_not_refused kind settings player body held 13 (body_order body) (passed_done body)) (checks_tested kind settings player held (tests_of kind settings body) body) in
+      let order = in_order (numbered (tests_of kind settings body)) _ _ refusal.WrongLength (done_not_refused kind settings player body held refusal.WrongLength (body_order body)) (checks_tested kind settings player held (tests_of kind settings body) body) in
       ((λ e. first_wrong (order.0 e)), (λ w. order.1 (wrong_first w)))
 
 -- Nothing but a dump moves a mark, whoever sends it.
@@ -236,11 +240,11 @@ module _ (kind : Kind) (settings : Settings) (player : Player) (held : Held) whe
   abbrev Stays : Outcome → Type 0
   Stays o = o.held.marks ≡ held.marks
 
-  order-moves : (body : List ℕ) (o : Order) → Meant kind settings body o → Stays (order_does kind settings player o body held) ⊎ MovesMarks kind body
+  order-moves : (body : List ℕ) (o : Result Order Check) → Meant kind settings body o → Stays (order_does kind settings player o body held) ⊎ MovesMarks kind body
   unfolding order_does
   order-moves body o (identity channel i) = inl refl
-  order-moves body o (asked t q) = inl (ap (λ (done : Outcome). done.held.marks) (send_does kind settings player t body held))
-  order-moves body o (dumped t d) = rw (store_does kind settings player t body held) (go (has_spare kind) refl)
+  order-moves body o (asked t q) = inl refl
+  order-moves body o (dumped t d) = go (has_spare kind) refl
     where
       go : (has : Bool) → has_spare kind ≡ has → Stays (storing kind player t body held) ⊎ MovesMarks kind body
       go true e = inr (e, t, _, _, d)
@@ -252,12 +256,12 @@ module _ (kind : Kind) (settings : Settings) (player : Player) (held : Held) whe
   message-moves (SysEx body) = order-moves body (judge_of kind settings body) (meant kind settings body)
   message-moves TooLong = inl refl
   message-moves (Channel status first second) =
-      inl (tested_cases Stays (channel_tests kind settings status first) (refusing held) _ (λ _. by Stays (is_controller status) _ _ (λ _. refl) (λ _. refl)) (λ number _. refl))
+      inl (tested_cases Stays (channel_tests kind settings status first) (refusing held) _ (λ _. by Stays (is_controller status) _ _ (λ _. refl) (λ _. refl)) (λ why _. refl))
 
   handed-moves : (message : List ℕ) → Stays (handed_does kind settings player message held) ⊎ ((body : List ℕ) × (message ≡ ended body) × MovesMarks kind body)
   handed-moves message =
       by_frame kind settings player held message (λ (o : Outcome). Stays o ⊎ ((body : List ℕ) × (message ≡ ended body) × MovesMarks kind body))
-      (λ number. inl refl)
+      (λ why. inl refl)
       (λ body e. ⊎_elim inl (λ x. inr (body, e, x)) (order-moves body (judge_of kind settings body) (meant kind settings body)))
 
 pub nothing_else : (kind_number : ℕ) (settings : Settings) (held : Held) (f : Finish Delivered)

@@ -1,4 +1,5 @@
 -- On a Bass POD "byte 46 plays no part": with any other number there a controller is shown and applied alike.
+use Rattle.std.specs.Prelude.{Ok}
 use Prim.Native.Nat.{ℕ, zero, suc, ◌+◌, ◌/◌, ◌%◌}
 use mathlib.Core.Bool.{Bool, true, cond}
 use mathlib.Core.List.{List}
@@ -16,7 +17,6 @@ use Rattle.controls.specs.Formulas.{next_for}
 use Rattle.controls.specs.Table.{table, row_of}
 use Rattle.controls.specs.Fields.{read_at, put_at, number_in}
 use Rattle.controls.specs.Applying.{Changed, changed, store_row, apply_tests, unchanged, apply_of}
-use Rattle.controls.specs.declared.Change.TheVariants.{Applied}
 use Rattle.controls.specs.Showing.{back_of}
 use Rattle.controls.specs.Meaning.{Outside}
 use Rattle.controls.proofs.Bytes.{narrower, not_first}
@@ -64,4 +64,4 @@ module _ (controller byte : ℕ) (edit : List ℕ) where
       let r = row_of BassPod controller in
       rw (length-set edit 46 byte, bass-selected controller (set edit 46 byte), bass-selected controller edit, same_store value)
       (sym (rw (bass-selected controller edit) at
-      (tested-map (λ (l : Changed). changed l.answer (set l.edit 46 byte)) (apply_tests BassPod r value edit) (unchanged edit) (changed Applied (store_row r value edit)))))
+      (tested-map (λ (l : Changed). changed l.answer (set l.edit 46 byte)) (apply_tests BassPod r value edit) (unchanged edit) (changed (Ok tt) (store_row r value edit)))))

@@ -1,4 +1,6 @@
 -- Byte 48: the demand's own story, at the sockets of the box.
+use Rattle.std.specs.Prelude.{Err}
+use Rattle.ground.specs.declared.Refusal.TheVariants.{NotSelected}
 use Prim.Native.Nat.{ℕ, ◌/◌, ◌≤◌}
 use mathlib.Core.Bool.{true, false}
 use mathlib.Core.List.{List, []}
@@ -29,7 +31,6 @@ use Rattle.sockets.specs.Calls.{Socket}
 use Rattle.sockets.specs.Promise.{socket_number, step_does}
 use Rattle.sysex.specs.declared.Settings.{Settings}
 use Rattle.sysex.specs.Forms.{longest}
-use Rattle.sysex.specs.Numbers.{refused}
 use Rattle.carrying.specs.Carrying.{refusing}
 use Rattle.podbox.specs.Settings.{is_valid, are_marks}
 use Rattle.podbox.specs.Messages.{is_heard, is_controller, channel_does, message_does}
@@ -43,7 +44,7 @@ module _ (settings : Settings) (status : ℕ) (heard : is_heard settings status 
     (player : Player) (held : Held) (m : memory_size Pod ≤ length held.memory)
     (f : Flanger (selector player held)) (controller value : ℕ) (rotary : RotaryMove controller) (h : value ≤ 127) where
   -- the message, however it was finished
-  pub rotary-refused : message_does Pod settings player held (Channel status controller value) ≡ refusing held 19
+  pub rotary-refused : message_does Pod settings player held (Channel status controller value) ≡ refusing held NotSelected
   unfolding message_does channel_does
   rotary-refused =
       let place = edit_place Pod player in
@@ -51,7 +52,7 @@ module _ (settings : Settings) (status : ℕ) (heard : is_heard settings status 
       let long = edit-length Pod player held m in
       let at : get_or edit 46 0 ≡ selector player held = get_or-take (size_of Pod) (drop place held.memory) 46 0 (has_46 Pod) ∙ get_or-drop place held.memory 46 0 in
       rw (heard, as_controller, rotary-under_flanger controller value edit rotary h (omega arith) (rw at f))
-      (ap (λ (memory : List ℕ). outcome (refused 19) (held_of memory held.marks) []) (put_same place (size_of Pod) held.memory))
+      (ap (λ (memory : List ℕ). outcome (Err NotSelected) (held_of memory held.marks) []) (put_same place (size_of Pod) held.memory))
 
 -- the last byte of the move, on either socket, of the player's own edit buffer, whatever stands in the buffers: 19, and all else is as it was
 module _ (settings : Settings) (status : ℕ) (heard : is_heard settings status ≡ true) (as_controller : is_controller status ≡ true)
@@ -69,7 +70,7 @@ module _ (settings : Settings) (status : ℕ) (heard : is_heard settings status 
   data_byte = ⊎_elim (λ e. omega arith) (λ m. ⊎_elim (λ e. omega arith) (λ e. omega arith) m) rotary
 
   pub rotary-on_socket : (receive reply : List ℕ) → is_valid settings ≡ true → mark_count ≤ length held.marks → are_marks held.marks ≡ true → longest Pod ≤ length receive → longest Pod ≤ length reply
-      → take_of (number_of Pod) settings (socket_number s) (holding_of status controller) value held receive reply ≡ took (under_of status) (refused 19) held receive reply
+      → take_of (number_of Pod) settings (socket_number s) (holding_of status controller) value held receive reply ≡ took (under_of status) (Err NotSelected) held receive reply
   unfolding step_does step_of is_kind kind_of number_of
   rotary-on_socket receive reply v k marked x r =
       let is_sound = stands-sound (limit Pod) (holding {s = status} {d = controller} (omega (arith, upper)) (omega (arith, upper)) takes_two data_byte) in

@@ -1,4 +1,9 @@
 -- What carrying out a message can do to what the box holds and to the reply: it stores, sends, applies or refuses, and nothing else.
+use Rattle.sysex.specs.declared.Check.{Check}
+use Rattle.std.specs.Prelude.{Result, Ok, Err}
+use Rattle.ground.specs.Refusals.{refusal_number}
+use Rattle.ground.specs.declared.Refusal.TheVariants as refusal
+use Rattle.ground.specs.declared.Refusal.{Refusal}
 use Prim.Native.Nat.{ℕ, ◌-◌, ◌≤◌}
 use mathlib.Core.List.{List, []}
 use mathlib.Core.Path.{◌≡◌, refl, ◌∙◌}
@@ -26,7 +31,7 @@ use Rattle.sysex.specs.declared.Settings.{Settings}
 use Rattle.sysex.specs.declared.Order.{Order}
 use Rattle.sysex.specs.declared.Answer.TheVariants.{Stored, Sent, Applied}
 use Rattle.sysex.specs.Forms.{type_for, data_place, longest, dump_body, is_long, identity_reply, ended}
-use Rattle.sysex.specs.Numbers.{refused, check_number}
+use Rattle.sysex.specs.Numbers.{refusal_for}
 use Rattle.sysex.specs.Judging.{judge_of}
 use Rattle.sysex.specs.Formats.{Meant, identity, asked, dumped, unsaid}
 use Rattle.sysex.proofs.Numbered.{check_number_lem}
@@ -37,28 +42,27 @@ use Rattle.carrying.proofs.Writing.{identity-length}
 use Rattle.podbox.specs.Messages.{is_controller, channel_tests, change_answer, controller_does, program_change_does, channel_does, message_does}
 use Rattle.podbox.proofs.Taking.{change_numbered}
 use Rattle.podbox.specs.Whole.{body_of, message_order, handed_does}
-use Rattle.demands.proofs.Forms.{store_does, send_does, message-meant, named-inside, dump-fits}
+use Rattle.demands.proofs.Forms.{message-meant, named-inside, dump-fits}
 
 -- an outcome: 1 and 3 keep the length of memory and send nothing, 3 moves no mark, 2 sends no more than the longest message and changes nothing, a refusal from 10 to 22 does nothing
 pub data Tame (kind : Kind) (held : Held) : Outcome → Type 0 where
-  stores : (after : Held) → length after.memory ≡ length held.memory → Tame kind held (outcome Stored after [])
-  sends : (bytes : List ℕ) → length bytes ≤ longest kind → Tame kind held (outcome (Sent (length bytes)) held bytes)
-  applies : (after : Held) → length after.memory ≡ length held.memory → after.marks ≡ held.marks → Tame kind held (outcome Applied after [])
-  refuses : (number : ℕ) → 10 ≤ number → number ≤ 22 → Tame kind held (outcome (refused number) held [])
+  stores : (after : Held) → length after.memory ≡ length held.memory → Tame kind held (outcome (Ok Stored) after [])
+  sends : (bytes : List ℕ) → length bytes ≤ longest kind → Tame kind held (outcome (Ok (Sent (length bytes))) held bytes)
+  applies : (after : Held) → length after.memory ≡ length held.memory → after.marks ≡ held.marks → Tame kind held (outcome (Ok Applied) after [])
+  refuses : (why : Refusal) → 10 ≤ refusal_number why → refusal_number why ≤ 22 → Tame kind held (outcome (Err why) held [])
 
 module _ (kind : Kind) (settings : Settings) (player : Player) (held : Held) (m : memory_size kind ≤ length held.memory) where
-  order_tame : (body : List ℕ) (o : Order) → Meant kind settings body o → Tame kind held (order_does kind settings player o body held)
+  order_tame : (body : List ℕ) (o : Result Order Check) → Meant kind settings body o → Tame kind held (order_does kind settings player o body held)
   unfolding order_does
   order_tame body o (identity channel i) = sends (identity_reply kind settings channel) (omega (arith, identity-length kind settings channel, (size-bounds kind).0))
   order_tame body o (asked t q) =
       let inside = named-inside kind player t q.there in
-      rw (send_does kind settings player t body held) (sends (ended (dump_body kind t (bytes_out kind player t held))) (dump-fits kind t (bytes_out kind player t held) (out_most kind player t held (omega arith))))
+      sends (ended (dump_body kind t (bytes_out kind player t held))) (dump-fits kind t (bytes_out kind player t held) (out_most kind player t held (omega arith)))
   order_tame body o (dumped t d) =
       let inside = named-inside kind player t d.there in
-      rw (store_does kind settings player t body held)
-      (stores _ (put-length (place_for kind player t) (count_for kind t) (received kind t (is_long kind t body) (join (drop (data_place (type_for t)) body))) held.memory (omega arith)
-      (received-length kind t (is_long kind t body) _ d.count)))
-  order_tame body o (unsaid check) = let n = check_number_lem check in refuses (check_number check) n.0 n.1
+      stores _ (put-length (place_for kind player t) (count_for kind t) (received kind t (is_long kind t body) (join (drop (data_place (type_for t)) body))) held.memory (omega arith)
+      (received-length kind t (is_long kind t body) _ d.count))
+  order_tame body o (unsaid check) = let n = check_number_lem check in refuses (refusal_for check) n.0 n.1
 
   controller_tame : (controller value : ℕ) → Tame kind held (controller_does kind player controller value held)
   controller_tame controller value =
@@ -69,7 +73,7 @@ module _ (kind : Kind) (settings : Settings) (player : Player) (held : Held) (m 
       let kept = put_same place (size_of kind) held.memory in
       apply_cases kind controller value edit (λ (l : Changed). Tame kind held (outcome (change_answer l.answer) (held_of (put_part place (size_of kind) l.edit held.memory) held.marks) []))
       (λ short. absurd (omega arith))
-      (λ number lo hi. rw kept (refuses number (omega arith) (omega arith)))
+      (λ why lo hi. rw kept (refuses why (omega arith) (omega arith)))
       (λ o h. applies _ (put-length place (size_of kind) (store_row (row_of kind controller) value edit) held.memory (omega arith) (store_length (row_of kind controller) value edit ∙ whole)) refl)
 
   -- the edit buffer becomes a program
@@ -82,14 +86,14 @@ module _ (kind : Kind) (settings : Settings) (player : Player) (held : Held) (m 
   pub message_tame : (message : Message) → Tame kind held (message_does kind settings player held message)
   unfolding message_does channel_does
   message_tame (SysEx body) = order_tame body (judge_of kind settings body) (meant kind settings body)
-  message_tame TooLong = refuses 10 (omega arith) (omega arith)
+  message_tame TooLong = refuses refusal.TooLong (omega arith) (omega arith)
   message_tame (Channel status first second) =
       tested_cases (Tame kind held) (channel_tests kind settings status first) (refusing held) _
       (λ all. by (Tame kind held) (is_controller status) _ _
       (λ _. controller_tame first second)
       (λ other. change_tame first (change_numbered kind status first (rw other at all.1.0))))
-      (λ number f. first-named (λ (n : ℕ). Tame kind held (refusing held n)) f
-      ((λ _. refuses 20 (omega arith) (omega arith)), (λ _. ((λ _. refuses 21 (omega arith) (omega arith)), (λ _. tt)))))
+      (λ why f. first-named (λ (r : Refusal). Tame kind held (refusing held r)) f
+      ((λ _. refuses refusal.OtherChannel (omega arith) (omega arith)), (λ _. ((λ _. refuses refusal.OtherStatus (omega arith) (omega arith)), (λ _. tt)))))
 
   -- the same of a message that is handed over whole
   pub handed_tame : (message : List ℕ) → Tame kind held (handed_does kind settings player message held)

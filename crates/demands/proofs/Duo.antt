@@ -1,4 +1,7 @@
 -- Req 08 for this box: the players do not notice one another.
+use Rattle.sysex.specs.declared.Order.TheVariants as order
+use Rattle.sysex.specs.declared.Check.{Check}
+use Rattle.std.specs.Prelude.{Result, Ok}
 use Prim.Native.Nat.{ℕ}
 use mathlib.Core.Bool.{Bool, true, false, true≢false}
 use mathlib.Core.List.{List, [], ◌∷◌}
@@ -29,7 +32,7 @@ use Rattle.sockets.proofs.Unnoticed.{unnoticed}
 use Rattle.sysex.specs.declared.Settings.{Settings}
 use Rattle.sysex.specs.declared.Order.{Order}
 use Rattle.sysex.specs.Judging.{judge_of}
-use Rattle.sysex.specs.Formats.{Meant, identity, asked, dumped, unsaid, store_order}
+use Rattle.sysex.specs.Formats.{Meant, identity, asked, dumped, unsaid}
 use Rattle.carrying.specs.Carrying.{Outcome}
 use Rattle.carrying.proofs.Understands.{meant}
 use Rattle.podbox.specs.declared.Move.{Move}
@@ -133,7 +136,7 @@ other_player S1 S1 e same = true≢false e
 
 -- What isolation takes for a dump of programs is one, and every one that is right.
 module _ (kind : Kind) (settings : Settings) where
-  order_stores : (body : List ℕ) (o : Order) → Meant kind settings body o → stores_programs o ≡ true → IsProgramDump kind (SysEx body)
+  order_stores : (body : List ℕ) (o : Result Order Check) → Meant kind settings body o → stores_programs o ≡ true → IsProgramDump kind (SysEx body)
   order_stores body o (identity channel i) e = absurd (true≢false (sym e))
   order_stores body o (asked (One p) q) e = absurd (true≢false (sym e))
   order_stores body o (asked Edit q) e = absurd (true≢false (sym e))
@@ -143,7 +146,7 @@ module _ (kind : Kind) (settings : Settings) where
   order_stores body o (dumped All d) e = (All, tt, _, _, d)
   order_stores body o (unsaid check) e = absurd (true≢false (sym e))
 
-  dump_stores : (t : Target) → OfPrograms t → stores_programs (store_order t) ≡ true
+  dump_stores : (t : Target) → OfPrograms t → stores_programs (Ok (order.Store t)) ≡ true
   dump_stores (One p) h = refl
   dump_stores Edit h = absurd h
   dump_stores All h = refl

@@ -1,4 +1,5 @@
 -- What is put in a player's edit buffer changes it alone; and what a controller that is applied does.
+use Rattle.std.specs.Prelude.{Ok}
 use Prim.Native.Nat.{ℕ, ◌≤◌}
 use mathlib.Core.List.{List, []}
 use mathlib.Core.Logic.{⊎_elim}
@@ -60,7 +61,7 @@ module _ (kind : Kind) (player : Player) (held : Held) (m : memory_size kind ≤
           marks_stay = refl;
         }
 
-  controller-moves : (controller value : ℕ) → (controller_does kind player controller value held).answer ≡ Applied
+  controller-moves : (controller value : ℕ) → (controller_does kind player controller value held).answer ≡ Ok Applied
       → Moved kind player controller value held (controller_does kind player controller value held)
   controller-moves controller value =
       let edit = bytes_in kind player Edit held in
@@ -68,17 +69,17 @@ module _ (kind : Kind) (player : Player) (held : Held) (m : memory_size kind ≤
       let whole = edit-length kind player held m in
       let same : length (store_row r value edit) ≡ size_of kind = store_length r value edit ∙ whole in
       let Does : Changed → Outcome = λ l. outcome (change_answer l.answer) (put_in kind player Edit l.edit held) [] in
-      apply_cases kind controller value edit (λ (l : Changed). (Does l).answer ≡ Applied → Moved kind player controller value held (Does l))
+      apply_cases kind controller value edit (λ (l : Changed). (Does l).answer ≡ Ok Applied → Moved kind player controller value held (Does l))
       (λ short. absurd (omega arith))
       (λ number lo hi e. let z : ◌≡◌ {A = ℕ} 0 1 = cc in absurd (omega arith))
       (λ o h e. record { none-sent = refl; applied = edit-put (store_row r value edit) same; alone = edit_alone (store_row r value edit) same })
 
   -- A controller that is applied: its number in its bytes of the sender's edit buffer, and nothing else.
   pub moved : (settings : Settings) (status controller value : ℕ) → (let o = message_does kind settings player held (Channel status controller value) in
-      o.answer ≡ Applied → Moved kind player controller value held o)
+      o.answer ≡ Ok Applied → Moved kind player controller value held o)
   unfolding message_does channel_does
   moved settings status controller value =
-      let P : Outcome → Type 0 = λ o. o.answer ≡ Applied → Moved kind player controller value held o in
+      let P : Outcome → Type 0 = λ o. o.answer ≡ Ok Applied → Moved kind player controller value held o in
       tested_cases P (channel_tests kind settings status controller) (refusing held) _
       (λ _. by P (is_controller status) _ _
       (λ _. controller-moves controller value)

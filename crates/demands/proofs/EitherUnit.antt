@@ -1,4 +1,7 @@
 -- What a POD and a POD Pro do alike: every SysEx that is not an identity request, on a socket and handed over whole, and every controller but those that are apart.
+use Rattle.std.specs.Prelude.{Result, Ok, Err}
+use Rattle.ground.specs.declared.Refusal.TheVariants.{NotListed, NoneGives}
+use Rattle.ground.specs.declared.Refusal.{Refusal}
 use Prim.Native.Nat.{ℕ, ◌≤◌, ◌<◌, max}
 use mathlib.Core.Bool.{Bool, true, false, false≢true, cond}
 use mathlib.Core.List.{List, [], ◌∷◌}
@@ -17,11 +20,8 @@ use Rattle.kinds.specs.declared.Kind.TheVariants.{Pod, PodPro}
 use Rattle.kinds.specs.Kinds.{is_kind, kind_of, number_of, size_of, has_spare, device_of, takes_program_change, highest_model}
 use Rattle.programs.specs.declared.Player.{Player}
 use Rattle.programs.specs.declared.Target.{Target}
-use Rattle.programs.specs.declared.Target.TheVariants.{Edit}
+use Rattle.programs.specs.declared.Target.TheVariants.{Edit, One, All}
 use Rattle.programs.specs.Held.{Held, bytes_in}
-use Rattle.controls.specs.declared.Change.TheVariants as change
-use Rattle.controls.specs.declared.Reading.{Reading}
-use Rattle.controls.specs.declared.Reading.TheVariants.{Value, Refused}
 use Rattle.controls.specs.Formulas.{number_by, number_for, next_for}
 use Rattle.controls.specs.Table.{table, row_of, selected}
 use Rattle.controls.specs.Answers.{change_number, refusal_of}
@@ -67,32 +67,28 @@ unfolding device_of
 same_dump t bytes = refl
 
 -- an order that is not to identify
-abbrev NotIdentify : Order → Type 0
-NotIdentify (order.Identify cc) = ⊥
-NotIdentify (order.SendProgram p) = Unit {0}
-NotIdentify order.SendEdit = Unit {0}
-NotIdentify order.SendAll = Unit {0}
-NotIdentify (order.StoreProgram p) = Unit {0}
-NotIdentify order.StoreEdit = Unit {0}
-NotIdentify order.StoreAll = Unit {0}
-NotIdentify (order.Refused check) = Unit {0}
+abbrev NotIdentify : Result Order Check → Type 0
+NotIdentify (Ok (order.Identify cc)) = ⊥
+NotIdentify (Ok (order.Send t)) = Unit {0}
+NotIdentify (Ok (order.Store t)) = Unit {0}
+NotIdentify (Err check) = Unit {0}
 
-order_same : (settings : Settings) (player : Player) (o : Order) (body : List ℕ) (held : Held) → NotIdentify o
+order_same : (settings : Settings) (player : Player) (o : Result Order Check) (body : List ℕ) (held : Held) → NotIdentify o
     → order_does PodPro settings player o body held ≡ order_does Pod settings player o body held
 unfolding order_does size_of has_spare device_of
-order_same settings player (order.Identify cc) body held not = absurd not
-order_same settings player (order.SendProgram p) body held not = refl
-order_same settings player order.SendEdit body held not = refl
-order_same settings player order.SendAll body held not = refl
-order_same settings player (order.StoreProgram p) body held not = refl
-order_same settings player order.StoreEdit body held not = refl
-order_same settings player order.StoreAll body held not = refl
-order_same settings player (order.Refused check) body held not = refl
+order_same settings player (Ok (order.Identify cc)) body held not = absurd not
+order_same settings player (Ok (order.Send (One p))) body held not = refl
+order_same settings player (Ok (order.Send Edit)) body held not = refl
+order_same settings player (Ok (order.Send All)) body held not = refl
+order_same settings player (Ok (order.Store (One p))) body held not = refl
+order_same settings player (Ok (order.Store Edit)) body held not = refl
+order_same settings player (Ok (order.Store All)) body held not = refl
+order_same settings player (Err check) body held not = refl
 
 -- what is no identity request is not judged to be one
 not_identify : (tests : List (Test Check)) (body : List ℕ) → (AllHold tests → is_identity body ≡ false) → NotIdentify (judged_by tests (body_order body))
 unfolding body_order
-not_identify tests body other = tested_cases NotIdentify tests order.Refused (body_order body) (λ all. rw (other all) (order_cases NotIdentify (opcode_of body) (type_of body) (program_of body) tt tt tt tt tt tt)) (λ _ _. tt)
+not_identify tests body other = tested_cases NotIdentify tests Err (Ok (body_order body)) (λ all. rw (other all) (order_cases (λ (o : Order). NotIdentify (Ok o)) (opcode_of body) (type_of body) (program_of body) tt tt)) (λ _ _. tt)
 
 module _ (settings : Settings) (player : Player) (held : Held) where
   -- Every SysEx that is not an identity request does the same,
@@ -157,7 +153,7 @@ pub scaled_differ : (controller value : ℕ) → is_apart controller value ≡ t
 unfolding scale_of row_of table highest_model
 scaled_differ controller value t =
     by_apart (λ c. scale_of PodPro c value ≡ scale_of Pod c value → ⊥) controller value t
-    (by (λ (r : Reading). r ≡ Refused 17 → ⊥) (leb value 127) _ _ (λ _ e. let z : ◌≡◌ {A = ℕ} 0 1 = cc in omega arith) (λ _ e. let z : ◌≡◌ {A = ℕ} 18 17 = ap refusal_of e in omega arith))
+    (by (λ (r : Result ℕ Refusal). r ≡ Err NotListed → ⊥) (leb value 127) _ _ (λ _ e. let z : ◌≡◌ {A = ℕ} 0 1 = cc in omega arith) (λ _ e. let z : ◌≡◌ {A = ℕ} 18 17 = ap refusal_of e in omega arith))
     (λ above within e. let z : ◌≡◌ {A = ℕ} 0 18 = ap refusal_of (rw (lt-leb value 27 above, le-leb value 31 within) at e) in omega arith)
 
 -- applied,
@@ -175,14 +171,14 @@ module _ (controller value : ℕ) (edit : List ℕ) where
   applied_differ long t =
       by_apart (λ c. (apply_of PodPro c value edit).answer ≡ (apply_of Pod c value edit).answer → ⊥) controller value t
       (rw (le-leb 72 (length edit) long)
-      (by (λ (x : Changed). x.answer ≡ change.Refused 17 → ⊥) (leb value 127) _ _
+      (by (λ (x : Changed). x.answer ≡ Err NotListed → ⊥) (leb value 127) _ _
       (λ _ e. let z : ◌≡◌ {A = ℕ} 3 17 = ap change_number e in omega arith) (λ _ e. let z : ◌≡◌ {A = ℕ} 18 17 = ap change_number e in omega arith)))
       (λ above within e.
       let z : ◌≡◌ {A = ℕ} 3 18 = ap change_number (rw (le-leb 72 (length edit) long, lt-leb value 27 above, le-leb value 31 within) at e) in omega arith)
 
 -- and shown back, where 12 has what byte 8 holds.
 shown_as_received : (kind : Kind) (controller : ℕ) → ((v stored : ℕ) → next_for (row_of kind controller) v stored ≡ v)
-    → (stored : ℕ) → shown_of (row_of kind controller) stored ≡ cond (leb stored (row_of kind controller).highest) (Value stored) (Refused 40)
+    → (stored : ℕ) → shown_of (row_of kind controller) stored ≡ cond (leb stored (row_of kind controller).highest) (Ok stored) (Err NoneGives)
 shown_as_received kind controller as_it_is stored =
     ⊎_elim
     (λ s. let same : s.0 ≡ stored = sym (as_it_is s.0 stored) ∙ s.2.gives in s.1 ∙ (rw (same, le-leb stored _ (rw same at s.2.within))))
@@ -190,8 +186,8 @@ shown_as_received kind controller as_it_is stored =
     (row-shown kind controller (formed kind controller) stored)
 
 model_shown : (edit : List ℕ) → (let model = get_or edit 8 0 in
-    (shown_of (row_of Pod 12) (read_at 1 8 edit) ≡ cond (leb model 27) (Value model) (Refused 40))
-    × (shown_of (row_of PodPro 12) (read_at 1 8 edit) ≡ cond (leb model 31) (Value model) (Refused 40)))
+    (shown_of (row_of Pod 12) (read_at 1 8 edit) ≡ cond (leb model 27) (Ok model) (Err NoneGives))
+    × (shown_of (row_of PodPro 12) (read_at 1 8 edit) ≡ cond (leb model 31) (Ok model) (Err NoneGives)))
 unfolding row_of table highest_model next_for number_for number_by
 model_shown edit =
     let model : read_at 1 8 edit ≡ get_or edit 8 0 = omega arith in

@@ -1,4 +1,5 @@
 -- A message handed over whole and the same message fed to a fresh socket, byte by byte, get the same answer and leave the same.
+use Rattle.ground.specs.declared.Refusal.TheVariants as refusal
 use Prim.Native.Nat.{ℕ, ◌+◌}
 use mathlib.Core.Bool.{Bool, true, false, cond}
 use mathlib.Core.List.{List, [], ◌∷◌, ◌++◌}
@@ -48,7 +49,7 @@ module _ (kind : Kind) (settings : Settings) where
 
   -- A message that is not framed is 10 or 11 when it is handed over; on a socket its bytes finish what they finish (`box_demand3`).
   pub not_framed : (player : Player) (message : List ℕ) (held : Held) → is_framed message ≡ false
-      → handed_does kind settings player message held ≡ cond (ltb (longest kind) (length message)) (refusing held 10) (refusing held 11)
+      → handed_does kind settings player message held ≡ cond (ltb (longest kind) (length message)) (refusing held refusal.TooLong) (refusing held refusal.NotOurs)
   not_framed player message held e = rw (handed_does_lem kind settings message player held, e)
 
 module _ (kind_number : ℕ) (settings : Settings) (w v : WorldOf (box_rules kind_number settings)) (s : Socket) (saids : SaidsOf (box_rules kind_number settings)) where

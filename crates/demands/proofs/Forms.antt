@@ -1,4 +1,5 @@
 -- What the forms of demand 2 do, by what they name: orders and bodies of dumps and requests, and the messages that have them.
+use Rattle.std.specs.Prelude.{Ok, Err}
 use Prim.Native.Nat.{ℕ, ◌+◌, ◌≤◌}
 use mathlib.Core.Bool.{Bool, true}
 use mathlib.Core.List.{List, [], ◌∷◌}
@@ -24,11 +25,10 @@ use Rattle.programs.specs.Held.{Held, place_for, count_for}
 use Rattle.programs.proofs.Slots.{sent_most}
 use Rattle.programs.proofs.Players.{edit-inside}
 use Rattle.sysex.specs.declared.Settings.{Settings}
-use Rattle.sysex.specs.declared.Order.TheVariants.{Refused}
 use Rattle.sysex.specs.Forms.{type_for, data_place, longest, request_body, dump_body, ended}
 use Rattle.sysex.specs.Judging.{has_form, body_order}
-use Rattle.sysex.specs.Formats.{There, IsDump, IsRequest, IsIdentity, send_order, store_order, Meant, unsaid}
-use Rattle.carrying.specs.Carrying.{order_does, body_does, answering, storing}
+use Rattle.sysex.specs.Formats.{There, IsDump, IsRequest, IsIdentity, Meant, unsaid}
+use Rattle.carrying.specs.Carrying.{body_does}
 use Rattle.carrying.proofs.Parts.{program-inside}
 use Rattle.carrying.proofs.Understands.{passed_meant}
 use Rattle.podbox.specs.Messages.{message_does}
@@ -36,20 +36,6 @@ use Rattle.podbox.specs.Whole.{is_framed, body_of, message_tests, message_order,
 use Rattle.podbox.specs.Box.{limit}
 use Rattle.podbox.proofs.Frames.{frame, frame_body, frame_framed}
 use Rattle.podbox.proofs.Orders.{handed_does_lem}
-
--- what an order does, by what it names
-module _ (kind : Kind) (settings : Settings) (player : Player) where
-  pub store_does : (t : Target) (body : List ℕ) (held : Held) → order_does kind settings player (store_order t) body held ≡ storing kind player t body held
-  unfolding order_does
-  store_does (One p) body held = refl
-  store_does Edit body held = refl
-  store_does All body held = refl
-
-  pub send_does : (t : Target) (body : List ℕ) (held : Held) → order_does kind settings player (send_order t) body held ≡ answering kind player t held
-  unfolding order_does
-  send_does (One p) body held = refl
-  send_does Edit body held = refl
-  send_does All body held = refl
 
 -- a dump's data, read off its body
 pub dump_data : (kind : Kind) (t : Target) (bytes : List ℕ) → join (drop (data_place (type_for t)) (dump_body kind t bytes)) ≡ bytes
@@ -122,6 +108,6 @@ module _ (kind : Kind) (settings : Settings) where
   pub message-meant : (message : List ℕ) → Meant kind settings (body_of message) (message_order kind settings message)
   unfolding message_order
   message-meant message =
-      tested_cases (Meant kind settings (body_of message)) (message_tests kind settings message) Refused (body_order (body_of message))
+      tested_cases (Meant kind settings (body_of message)) (message_tests kind settings message) Err (Ok (body_order (body_of message)))
       (λ a. passed_meant kind settings (body_of message) ((both (is_framed message) (has_form kind (body_of message)) a.1.0).1, a.1.1))
       (λ check _. unsaid check)

@@ -1,4 +1,7 @@
 -- Req 05: a list of moves does what its moves do as messages, sent one by one on our channel.
+use Rattle.std.specs.Prelude.{Ok, Err}
+use Rattle.ground.specs.Refusals.{refusal_number}
+use Rattle.ground.specs.declared.Refusal.{Refusal}
 use Prim.Native.Nat.{ℕ, zero, suc, ◌+◌, ◌≤◌, ◌<◌}
 use mathlib.Core.Bool.{true, false}
 use mathlib.Core.List.{List, [], ◌∷◌}
@@ -30,9 +33,8 @@ use Rattle.sockets.specs.History.{WorldOf, History, saids_along}
 use Rattle.sockets.specs.Demand.{framer_of, Sound, starts}
 use Rattle.sockets.proofs.Fed.{two_awaited, At, behind, channel-stands, channel_finishes, channel_answers}
 use Rattle.sysex.specs.declared.Settings.{Settings}
-use Rattle.sysex.specs.declared.Answer.{Answer}
 use Rattle.sysex.specs.declared.Answer.TheVariants.{Taken}
-use Rattle.sysex.specs.Numbers.{refused, answer_number}
+use Rattle.sysex.specs.Numbers.{answer_number, Answered}
 use Rattle.carrying.specs.Carrying.{Outcome}
 use Rattle.podbox.specs.declared.Move.{Move}
 use Rattle.podbox.specs.Settings.{is_valid}
@@ -68,14 +70,14 @@ module _ (kind_number : ℕ) (settings : Settings) where
     same_saids [] held = refl
     same_saids (move ∷ moves) held =
         let o = message_does (kind_of kind_number) settings (socket_player (socket_of player_number)) held (move_message settings move) in
-        ap (λ (l : List (Said Answer)). said_of o ∷ l) (same_saids moves o.held)
+        ap (λ (l : List (Said Answered)). said_of o ∷ l) (same_saids moves o.held)
 
     -- "The edit buffer afterwards and the number noted for each move are those of the moves sent one by one on our channel", by the same player.
     pub one_by_one : (moves : List Move) (held : Held) (numbers : List ℕ) → AllHold (moves_tests kind_number settings player_number moves held numbers)
         → OneByOne kind_number settings (socket_of player_number) moves held numbers (moves_of kind_number settings player_number moves held numbers)
     one_by_one moves held numbers all =
         moves_passed kind_number settings player_number moves held numbers all
-        ∙ (λ i. left Taken (same_held moves held i) (written (noted (same_saids moves held i)) numbers))
+        ∙ (λ i. left (Ok Taken) (same_held moves held i) (written (noted (same_saids moves held i)) numbers))
 
   -- the same as bytes
   module _ (valid : is_valid settings ≡ true) (start : Socket → Framer) (s : Socket) where
@@ -110,7 +112,7 @@ module _ (kind_number : ℕ) (settings : Settings) where
       next_finishes = channel_finishes rules start s before status move.controller move.value out (le-leb _ _ low.0) (le-leb _ _ low.1) rest
 
       next_answers : (held : Held) → (let o = message_does (kind_of kind_number) settings (socket_player s) held (move_message settings move) in
-          saids_along rules start held before (feed s (moves_bytes settings (move ∷ moves))) ≡ said Taken [] ∷ said Taken [] ∷ said_of o ∷ saids_along rules start o.held next rest)
+          saids_along rules start held before (feed s (moves_bytes settings (move ∷ moves))) ≡ said (Ok Taken) [] ∷ said (Ok Taken) [] ∷ said_of o ∷ saids_along rules start o.held next rest)
       next_answers = channel_answers rules start s before status move.controller move.value out (le-leb _ _ low.0) (le-leb _ _ low.1) rest
 
     bytes_finish : (moves : List Move) (before : CallsOf rules) → Outside before → AllData moves
@@ -153,7 +155,7 @@ module _ (kind_number : ℕ) (settings : Settings) where
       rw (moves_passed kind_number settings player_number moves w.held numbers all) (
         d.held ∙ ap (held_after rules w.held) finished ∙ sym (same_held player_number moves w.held),
         ap noted d.each ∙ bytes-answer valid (starts rules w) s moves w.held [] outside low
-            ∙ ap (λ (l : List (Said Answer)). by_bytes (noted l)) (sym (same_saids player_number moves w.held))
+            ∙ ap (λ (l : List (Said Answered)). by_bytes (noted l)) (sym (same_saids player_number moves w.held))
             ∙ ap by_bytes (sym (numbers-written player_number moves w.held numbers)),
       )
 
@@ -170,7 +172,7 @@ module _ (kind : Kind) (player : Player) (held : Held) (m : memory_size kind ≤
       let edit = bytes_in kind player Edit held in
       let whole = edit-length kind player held m in
       apply_cases kind controller value edit (λ (l : Changed). let number = answer_number (change_answer l.answer) in (number ≡ 3) ⊎ ((17 ≤ number) × (number ≤ 19)))
-      (λ short. absurd (omega arith)) (λ number lo hi. inr (lo, hi)) (λ _ _. inl refl)
+      (λ short. absurd (omega arith)) (λ why lo hi. inr (lo, hi)) (λ _ _. inl refl)
 
 module _ (kind_number : ℕ) (settings : Settings) (valid : is_valid settings ≡ true) (player_number : ℕ) where
   abbrev sender_of : Player
@@ -212,7 +214,7 @@ pub every-list : (kind_number : ℕ) (settings : Settings) (player_number : ℕ)
     → AnsweredList (kind_of kind_number) (player_of player_number) moves held numbers (moves_of kind_number settings player_number moves held numbers)
 every-list kind_number settings player_number moves held numbers =
     moves_cases kind_number settings player_number moves held numbers (AnsweredList (kind_of kind_number) (player_of player_number) moves held numbers)
-    (λ number lo hi. turned number lo (inr (lo, hi)))
+    (λ why lo hi. turned why lo (inr (lo, hi)))
     (λ all.
     let m = leb-true _ _ all.1.1.1.0 in
     let valid = all.1.1.1.1.1.0 in
@@ -228,9 +230,9 @@ every-list kind_number settings player_number moves held numbers =
           (sender player_number) (list_alone kind_number settings valid player_number moves held m);
     })
   where
-    turned : (number : ℕ) → 30 ≤ number → ListNumber number
-        → AnsweredList (kind_of kind_number) (player_of player_number) moves held numbers (left (refused number) held numbers)
-    turned number from in_table = record {
+    turned : (why : Refusal) → 30 ≤ refusal_number why → ListNumber (refusal_number why)
+        → AnsweredList (kind_of kind_number) (player_of player_number) moves held numbers (left (Err why) held numbers)
+    turned why from in_table = record {
       numbered = in_table;
       turned_away = λ _. (refl, refl);
       each = λ none. absurd (omega (arith, none));

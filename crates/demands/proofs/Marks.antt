@@ -1,4 +1,6 @@
 -- What carrying out a message can do to the marks: they stay, or a dump that is stored moves those of what it names.
+use Rattle.sysex.specs.declared.Check.{Check}
+use Rattle.std.specs.Prelude.{Result}
 use Prim.Native.Nat.{ℕ, zero, suc, ◌+◌, ◌≤◌}
 use mathlib.Core.Bool.{Bool, true, false, cond}
 use mathlib.Core.List.{List}
@@ -31,7 +33,7 @@ use Rattle.carrying.proofs.Understands.{meant}
 use Rattle.podbox.specs.Settings.{are_marks}
 use Rattle.podbox.specs.Messages.{is_controller, channel_tests, channel_does, message_does}
 use Rattle.podbox.specs.Whole.{body_of, message_order, handed_does}
-use Rattle.demands.proofs.Forms.{store_does, send_does, message-meant}
+use Rattle.demands.proofs.Forms.{message-meant}
 
 -- what is named has its marks among the box's own
 pub slots_named : (player : Player) (t : Target) → There t → slot_for player t + slots_for t ≤ mark_count
@@ -77,11 +79,11 @@ marking_valid {kind} {player} {marks} k (move t long h) valid =
         rw (split, take_at (put_part slot slots bytes own) (drop mark_count marks) mark_count (omega arith)) (put_low slot slots 1 bytes own (mark_low long slots) valid)
 
 module _ (kind : Kind) (settings : Settings) (player : Player) (held : Held) where
-  order_marks : (body : List ℕ) (o : Order) → Meant kind settings body o → Marking kind player held.marks (order_does kind settings player o body held).held.marks
+  order_marks : (body : List ℕ) (o : Result Order Check) → Meant kind settings body o → Marking kind player held.marks (order_does kind settings player o body held).held.marks
   unfolding order_does
   order_marks body o (identity channel i) = stay
-  order_marks body o (asked t q) = rw (send_does kind settings player t body held) stay
-  order_marks body o (dumped t d) = rw (store_does kind settings player t body held) (move t (is_long kind t body) d.there)
+  order_marks body o (asked t q) = stay
+  order_marks body o (dumped t d) = move t (is_long kind t body) d.there
   order_marks body o (unsaid check) = stay
 
   pub message_marks : (m : Message) → Marking kind player held.marks (message_does kind settings player held m).held.marks

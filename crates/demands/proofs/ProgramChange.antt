@@ -1,9 +1,14 @@
 -- The program change of a Bass box: what it does, that nothing else does it, and that a POD takes none.
+use Rattle.sysex.specs.Numbers.{answer_number}
+use Rattle.std.proofs.lemmas.Result.{IfErr-at_err}
+use Rattle.std.specs.Prelude.{⊤, Result, Ok, Err}
+use Rattle.ground.specs.declared.Refusal.TheVariants.{OtherStatus}
+use Rattle.ground.specs.declared.Refusal.{Refusal}
 use Prim.Native.Nat.{ℕ, ◌-◌, ◌/◌, ◌≤◌, ◌<◌}
 use mathlib.Core.Bool.{true, false, ◌&&◌}
 use mathlib.Core.List.{List}
 use mathlib.Core.Logic.{◌⊎◌, ⊎_elim, ◌↔◌}
-use mathlib.Core.Path.{◌≡◌, refl, ap, ◌∙◌}
+use mathlib.Core.Path.{◌≡◌, refl, ap, ◌∙◌, sym}
 use native.Mathlib.Omega.{arith}
 use lib.Dec.{eqb, leb}
 use lib.ListN.{length, length-take, length-drop}
@@ -18,8 +23,6 @@ use Rattle.programs.specs.declared.Player.{Player}
 use Rattle.programs.specs.Memory.{player_of, program_count, memory_size}
 use Rattle.programs.specs.declared.Target.TheVariants.{One, Edit}
 use Rattle.programs.specs.Held.{Held, bytes_in}
-use Rattle.controls.specs.declared.Change.{Change}
-use Rattle.controls.specs.declared.Change.TheVariants as change
 use Rattle.controls.specs.Applying.{apply_of}
 use Rattle.framing.specs.Receiver.{under_of, takes_one}
 use Rattle.framing.specs.Bytes.{step_of}
@@ -50,9 +53,9 @@ module _ (kind : Kind) (player : Player) (number : ℕ) (held : Held) (m : memor
       record { stored = refl; none-sent = refl; copied = edit-put kind player held m program part_length; alone = edit_alone kind player held m program part_length }
 
 -- a controller answers 3 or a refusal
-not_stored : (c : Change) → change_answer c ≡ Stored → ⊥
-not_stored change.Applied e = let z : ◌≡◌ {A = ℕ} 0 1 = cc in omega arith
-not_stored (change.Refused number) e = let z : ◌≡◌ {A = ℕ} 0 1 = cc in omega arith
+not_stored : (c : Result ⊤ Refusal) → change_answer c ≡ Ok Stored → ⊥
+not_stored (Ok done) e = let z : ◌≡◌ {A = ℕ} 3 1 = ap answer_number e in omega arith
+not_stored (Err why) e = IfErr-at_err (λ _. ⊥) (sym e) tt
 
 no_controller : (status : ℕ) → status / 16 ≡ 0xC → is_controller status ≡ false
 unfolding is_controller
@@ -82,20 +85,20 @@ module _ (settings : Settings) (player : Player) (held : Held) (status number se
   recalled m c = rw (does_change c) (change_recalls BassPod player number held m c.from_1 c.to_36)
 
   -- no other channel message returns 1
-  pub changes_exactly : ((Does BassPod).answer ≡ Stored) ↔ IsChange settings status number
+  pub changes_exactly : ((Does BassPod).answer ≡ Ok Stored) ↔ IsChange settings status number
   unfolding message_does channel_does
   changes_exactly = (only, (λ c. ap (λ (o : Outcome). o.answer) (does_change c)))
     where
-      only : (Does BassPod).answer ≡ Stored → IsChange settings status number
+      only : (Does BassPod).answer ≡ Ok Stored → IsChange settings status number
       only =
-          tested_cases (λ (o : Outcome). o.answer ≡ Stored → IsChange settings status number) (channel_tests BassPod settings status number) (refusing held) _
-          (λ all. by (λ (o : Outcome). o.answer ≡ Stored → IsChange settings status number) (is_controller status) _ _
+          tested_cases (λ (o : Outcome). o.answer ≡ Ok Stored → IsChange settings status number) (channel_tests BassPod settings status number) (refusing held) _
+          (λ all. by (λ (o : Outcome). o.answer ≡ Ok Stored → IsChange settings status number) (is_controller status) _ _
           (λ _ e. absurd (not_stored (apply_of BassPod number second (bytes_in BassPod player Edit held)).answer e))
           (λ other _. named (rw other at all.1.0) all.0))
-          (λ n _ e. let z : ◌≡◌ {A = ℕ} 0 1 = cc in absurd (omega arith))
+          (λ n _ e. absurd (IfErr-at_err (λ _. ⊥) (sym e) tt))
 
   -- "0 (manual), 37 (tuner) and above still return 21"
-  pub still_21 : is_heard settings status ≡ true → status / 16 ≡ 0xC → (number < 1) ⊎ (program_count < number) → Does BassPod ≡ refusing held 21
+  pub still_21 : is_heard settings status ≡ true → status / 16 ≡ 0xC → (number < 1) ⊎ (program_count < number) → Does BassPod ≡ refusing held OtherStatus
   unfolding message_does channel_does is_program_change takes_program_change
   still_21 heard c outside =
       rw (heard, no_controller status c, eq-eqb (status / 16) 0xC c)
@@ -105,7 +108,7 @@ module _ (settings : Settings) (player : Player) (held : Held) (status number se
       outside)
 
   -- and so does every program change on a POD and on a POD Pro
-  pub pod_21 : is_heard settings status ≡ true → status / 16 ≡ 0xC → (Does Pod ≡ refusing held 21) × (Does PodPro ≡ refusing held 21)
+  pub pod_21 : is_heard settings status ≡ true → status / 16 ≡ 0xC → (Does Pod ≡ refusing held OtherStatus) × (Does PodPro ≡ refusing held OtherStatus)
   unfolding message_does channel_does is_program_change takes_program_change
   pod_21 heard c = (rw (heard, no_controller status c), rw (heard, no_controller status c))
 
@@ -113,7 +116,7 @@ module _ (settings : Settings) (player : Player) (held : Held) (status number se
 pub change-on_socket : (kind_number : ℕ) → kind_of kind_number ≡ BassPod → (settings : Settings) (socket status number : ℕ) (held : Held) (receive reply : List ℕ)
     → AllHold (take_tests kind_number settings socket (lent (under_of status) held receive reply)) → IsChange settings status number
     → (let o = message_does BassPod settings (player_of socket) held (Channel status number 0) in
-    (take_of kind_number settings socket (under_of status) number held receive reply ≡ took (under_of status) Stored o.held receive reply)
+    (take_of kind_number settings socket (under_of status) number held receive reply ≡ took (under_of status) (Ok Stored) o.held receive reply)
     × Recalled BassPod (player_of socket) number held o)
 unfolding step_does step_of takes_one
 change-on_socket kind_number bass settings socket status number held receive reply all c =

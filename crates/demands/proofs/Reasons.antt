@@ -1,4 +1,5 @@
 -- "The reason must be true": what is said of a message is what a fresh box makes of it.
+use Rattle.std.specs.Prelude.{Ok, Err}
 use Prim.Native.Nat.{ℕ, ◌-◌, ◌≤◌, ◌<◌}
 use mathlib.Core.Bool.{Bool, true, false, cond, ◌&&◌, true≢false}
 use mathlib.Core.List.{List}
@@ -19,7 +20,6 @@ use Rattle.programs.specs.Held.{Held}
 use Rattle.sockets.specs.Calls.{Socket}
 use Rattle.sockets.specs.Promise.{socket_number}
 use Rattle.sysex.specs.declared.Check.{Check}
-use Rattle.sysex.specs.declared.Order.TheVariants.{Refused}
 use Rattle.sysex.specs.Forms.{opcode_of, type_of, program_of, request, dump, program, all, body_length, whole_length, shortest, longest, is_identity, is_our_channel}
 use Rattle.sysex.specs.Numbers.{answer_number, order_number}
 use Rattle.sysex.specs.Judging.{has_program, form_tests, further_tests, body_order}
@@ -35,7 +35,7 @@ use Rattle.demands.proofs.Passed.{socket-known, whole_passed}
 because : (kind : Kind) (message : List ℕ) → Because kind message (reason_of kind message)
 unfolding message_order
 because kind message =
-    tested_cases (Because kind message) (message_tests kind fresh_settings message) Refused (body_order (body_of message))
+    tested_cases (Because kind message) (message_tests kind fresh_settings message) Err (Ok (body_order (body_of message)))
     (λ a. passes (body_order (body_of message)) a (passed_done (body_of message)))
     fails
 

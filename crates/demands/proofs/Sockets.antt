@@ -1,5 +1,6 @@
 -- Demand 3 for this box: its rules are lawful, and its calls promise what the laws of two sockets are about (`take_of` is `byte_of`, `whole_of` and `moves_of` are
 -- `direct_of`).
+use Rattle.ground.specs.Refusals.{refusal_number}
 use Prim.Native.Nat.{ℕ, suc, ◌+◌, ◌≤◌}
 use mathlib.Core.Bool.{true, false}
 use mathlib.Core.List.{List, [], ◌∷◌, ◌++◌, map}
@@ -25,9 +26,8 @@ use Rattle.sockets.proofs.Whole.{demand3, from-sound, no_effect}
 use Rattle.sockets.proofs.Calm.{calms}
 use Rattle.sockets.proofs.Live.{Ready, AllFair, live}
 use Rattle.sysex.specs.declared.Settings.{Settings}
-use Rattle.sysex.specs.declared.Answer.{Answer}
 use Rattle.sysex.specs.Forms.{longest}
-use Rattle.sysex.specs.Numbers.{answer_number}
+use Rattle.sysex.specs.Numbers.{answer_number, Answered}
 use Rattle.carrying.specs.Carrying.{Outcome}
 use Rattle.podbox.specs.declared.Move.{Move}
 use Rattle.podbox.specs.Settings.{is_valid, are_marks}
@@ -46,13 +46,13 @@ tame_length : {kind : Kind} {held : Held} {o : Outcome} → Tame kind held o →
 tame_length (stores after e) = e
 tame_length (sends bytes short) = refl
 tame_length (applies after e stays) = e
-tame_length (refuses number lo hi) = refl
+tame_length (refuses why lo hi) = refl
 
 tame_taken : {kind : Kind} {held : Held} {o : Outcome} → Tame kind held o → turned_away (answer_number o.answer) ≡ false
 tame_taken (stores after e) = refl
 tame_taken (sends bytes short) = refl
 tame_taken (applies after e stays) = refl
-tame_taken (refuses number lo hi) = rw (lt-leb 30 number (omega arith)) refl
+tame_taken (refuses why lo hi) = rw (lt-leb 30 (refusal_number why) (omega arith)) refl
 
 module _ (kind_number : ℕ) (settings : Settings) where
   kept : (held : Held) (f : Finish Delivered) → memory_size (kind_of kind_number) ≤ length held.memory
@@ -62,7 +62,7 @@ module _ (kind_number : ℕ) (settings : Settings) where
   kept held (FromDirect (FromList s m)) g = omega (arith, tame_length (message_tame (kind_of kind_number) settings (socket_player s) held g m))
 
   -- what the messages of a list answer: a number for each move, and no reply
-  abbrev pub list_saids : ℕ → Held → List Move → List (Said Answer)
+  abbrev pub list_saids : ℕ → Held → List Move → List (Said Answered)
   list_saids player_number held moves = saids_of (box_rules kind_number settings) held (handing (hands_of settings (Moves player_number moves)))
 
   -- what the box holds once the message of one move is carried out

@@ -40,7 +40,7 @@ OnePlace kind r byte receive after =
     ⊎ (((after ≡ set receive r.stored byte) × (byte < 0x80) × (is_open r ≡ true) × (r.stored < limit kind)) ⊎ ((after ≡ set receive 0 byte) × (byte ≡ 0xF0)))
 
 -- a byte call
-pub record Answered (kind : Kind) (r : Receiver) (byte : ℕ) (held : Held) (receive reply : List ℕ) (l : Took) : Type 0 where
+pub record AnsweredByte (kind : Kind) (r : Receiver) (byte : ℕ) (held : Held) (receive reply : List ℕ) (l : Took) : Type 0 where
   -- "gets one of the numbered replies"
   pub numbered : ByteNumber (answer_number l.answer)
   pub confined : Confined kind held reply (record { held = l.held; answer = l.answer; reply = l.reply })

@@ -1,5 +1,5 @@
 -- Req 08, "Two players, one set of programs": what the players of this box share, what is each one's own, which dumps store programs, and whose a direct call is.
-use Rattle.std.specs.Prelude.{ℕ, Bool, true, false, List}
+use Rattle.std.specs.Prelude.{ℕ, Bool, true, false, List, Result, Ok, Err}
 use Rattle.kinds.specs.declared.Kind.{Kind}
 use Rattle.kinds.specs.Kinds.{kind_of}
 use Rattle.programs.specs.declared.Player.{Player}
@@ -12,6 +12,7 @@ use Rattle.sockets.specs.Calls.{Socket, if_same}
 use Rattle.sockets.specs.Promise.{socket_of}
 use Rattle.sockets.specs.Players.{Players}
 use Rattle.sysex.specs.declared.Settings.{Settings}
+use Rattle.sysex.specs.declared.Check.{Check}
 use Rattle.sysex.specs.declared.Order.{Order}
 use Rattle.sysex.specs.declared.Order.TheVariants as order
 use Rattle.sysex.specs.Judging.{judge_of}
@@ -31,15 +32,13 @@ abbrev pub programs_in : Kind → Held → Held
 programs_in kind held = held_of (part_of 0 (all_size kind) held.memory) (part_of 0 program_count held.marks)
 
 -- "program and all programs dumps" that no check refuses
-abbrev pub stores_programs : Order → Bool
-stores_programs (order.Identify cc) = false
-stores_programs (order.SendProgram p) = false
-stores_programs order.SendEdit = false
-stores_programs order.SendAll = false
-stores_programs (order.StoreProgram p) = true
-stores_programs order.StoreEdit = false
-stores_programs order.StoreAll = true
-stores_programs (order.Refused check) = false
+abbrev pub stores_programs : Result Order Check → Bool
+stores_programs (Ok (order.Identify cc)) = false
+stores_programs (Ok (order.Send t)) = false
+stores_programs (Ok (order.Store (One p))) = true
+stores_programs (Ok (order.Store Edit)) = false
+stores_programs (Ok (order.Store All)) = true
+stores_programs (Err check) = false
 
 abbrev pub message_stores : Kind → Settings → Message → Bool
 message_stores kind settings (SysEx body) = stores_programs (judge_of kind settings body)

@@ -1,5 +1,5 @@
 -- "and then only what it names changes", where that is a player's edit buffer: a controller and a program change act on it alone.
-use Rattle.std.specs.Prelude.{ℕ, ◌+◌, ◌-◌, ◌/◌, ◌≤◌, ◌<◌, true, [], ◌⊎◌, ◌≡◌, length, get_or}
+use Rattle.std.specs.Prelude.{ℕ, ◌+◌, ◌-◌, ◌/◌, ◌≤◌, ◌<◌, true, [], ◌⊎◌, ◌≡◌, length, get_or, Ok}
 use Rattle.kinds.specs.declared.Kind.{Kind}
 use Rattle.kinds.specs.Kinds.{size_of}
 use Rattle.programs.specs.declared.Player.{Player}
@@ -36,7 +36,7 @@ pub record IsChange (settings : Settings) (status number : ℕ) : Type 0 where
 
 -- "copies program 0 to 35 into the edit buffer and returns 1"
 pub record Recalled (kind : Kind) (player : Player) (number : ℕ) (held : Held) (o : Outcome) : Type 0 where
-  pub stored : o.answer ≡ Stored
+  pub stored : o.answer ≡ Ok Stored
   pub none-sent : o.sent ≡ []
   pub copied : bytes_in kind player Edit o.held ≡ bytes_in kind player (One (number - 1)) held
   pub alone : EditAlone kind player held o.held

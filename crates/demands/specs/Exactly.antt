@@ -1,6 +1,6 @@
 -- "A dump is stored exactly when its header, kind, length, program number, version and half bytes are all right, and then only what it names changes.":
 -- what a finished SysEx does, by what it is.
-use Rattle.std.specs.Prelude.{ℕ, Bool, List, [], ◌⊎◌, ◌↔◌, ◌≡◌}
+use Rattle.std.specs.Prelude.{ℕ, Bool, List, [], ◌⊎◌, ◌↔◌, ◌≡◌, Ok}
 use Rattle.ground.specs.Calls.{outcome}
 use Rattle.kinds.specs.declared.Kind.{Kind}
 use Rattle.programs.specs.declared.Player.{Player}
@@ -15,11 +15,11 @@ use Rattle.carrying.specs.Carrying.{Outcome, sending, answering}
 -- `Body` says which bodies the message has: of one that is handed over whole, what stands before its F7; of one that F7 finishes on a socket, what
 -- stands in the receive buffer
 pub record Exactly (kind : Kind) (settings : Settings) (player : Player) (held : Held) (Body : List ℕ → Type 0) (o : Outcome) : Type 0 where
-  pub stored : (o.answer ≡ Stored) ↔ ((body : List ℕ) × Body body × (t : Target) × (long : Bool) × (bytes : List ℕ) × IsDump kind t long bytes body)
+  pub stored : (o.answer ≡ Ok Stored) ↔ ((body : List ℕ) × Body body × (t : Target) × (long : Bool) × (bytes : List ℕ) × IsDump kind t long bytes body)
   pub named : (body : List ℕ) → Body body → (t : Target) (long : Bool) (bytes : List ℕ) → IsDump kind t long bytes body
-      → o ≡ outcome Stored (store_in kind player t long bytes held) []
+      → o ≡ outcome (Ok Stored) (store_in kind player t long bytes held) []
   -- the same of requests: they are answered exactly when they are right, "by the dump with the same type", and nothing changes
-  pub answered : ((count : ℕ) × (o.answer ≡ Sent count))
+  pub answered : ((count : ℕ) × (o.answer ≡ Ok (Sent count)))
       ↔ ((body : List ℕ) × Body body × (((t : Target) × IsRequest kind t body) ⊎ ((cc : ℕ) × IsIdentity settings cc body)))
   pub dumped : (body : List ℕ) → Body body → (t : Target) → IsRequest kind t body → o ≡ answering kind player t held
   pub identified : (body : List ℕ) → Body body → (cc : ℕ) → IsIdentity settings cc body → o ≡ sending (identity_reply kind settings cc) held

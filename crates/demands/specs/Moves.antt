@@ -1,5 +1,5 @@
 -- Req 05, "Many moves in one go": what a list is to do, said by messages and by bytes.
-use Rattle.std.specs.Prelude.{ℕ, ◌+◌, ◌≤◌, ◌<◌, true, false, List, [], ◌∷◌, ◌⊎◌, ◌≡◌, length, get_or, drop}
+use Rattle.std.specs.Prelude.{ℕ, ◌+◌, ◌≤◌, ◌<◌, true, false, List, [], ◌∷◌, ◌⊎◌, ◌≡◌, length, get_or, drop, Ok}
 use Rattle.ground.specs.Lists.{written}
 use Rattle.ground.specs.Calls.{left}
 use Rattle.kinds.specs.declared.Kind.{Kind}
@@ -28,7 +28,7 @@ abbrev pub OneByOne : (kind_number : ℕ) (settings : Settings) → Socket → L
 OneByOne kind_number settings s moves held numbers l =
     let rules = box_rules kind_number settings in
     let messages = sent_on kind_number settings s moves in
-    l ≡ left Taken (held_after rules held messages) (written (noted (saids_of rules held messages)) numbers)
+    l ≡ left (Ok Taken) (held_after rules held messages) (written (noted (saids_of rules held messages)) numbers)
 
 -- the bytes `B0 + channel, controller, value` of each move
 abbrev pub moves_bytes : Settings → List Move → List ℕ

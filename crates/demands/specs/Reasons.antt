@@ -1,5 +1,5 @@
 -- Req 02: "The reason must be true: that check fails on these bytes, every earlier one holds".
-use Rattle.std.specs.Prelude.{ℕ, ◌≤◌, ◌<◌, true, false, ◌&&◌, List, ◌≡◌, length, get_or, drop}
+use Rattle.std.specs.Prelude.{ℕ, ◌≤◌, ◌<◌, true, false, ◌&&◌, List, ◌≡◌, length, get_or, drop, Result, Ok, Err}
 use Rattle.ground.specs.Tests.{AllHold, FirstToFail}
 use Rattle.halves.specs.HalfBytes.{all_halves}
 use Rattle.kinds.specs.declared.Kind.{Kind}
@@ -8,7 +8,6 @@ use Rattle.programs.specs.Memory.{last_program}
 use Rattle.sysex.specs.declared.Check.{Check}
 use Rattle.sysex.specs.declared.Check.TheVariants.{TooLong, Ours, OpcodeAndType, Length, Program, Version, HalfBytes, Channel}
 use Rattle.sysex.specs.declared.Order.{Order}
-use Rattle.sysex.specs.declared.Order.TheVariants.{Refused}
 use Rattle.sysex.specs.Forms.{opcode_of, type_of, program_of, dump, program, all, version, version_place, data_place, whole_length, shortest, longest, is_identity}
 use Rattle.sysex.specs.Numbers.{IsDone}
 use Rattle.sysex.specs.Judging.{has_form, is_known}
@@ -16,9 +15,9 @@ use Rattle.podbox.specs.Settings.{fresh_settings}
 use Rattle.podbox.specs.Whole.{is_framed, body_of, message_tests}
 
 -- of a message that is refused, that; of one that is accepted every check holds, and the number is 1 or 2
-pub data Because (kind : Kind) (message : List ℕ) : Order → Type 0 where
-  fails : (check : Check) → FirstToFail (message_tests kind fresh_settings message) check → Because kind message (Refused check)
-  passes : (order : Order) → AllHold (message_tests kind fresh_settings message) → IsDone order → Because kind message order
+pub data Because (kind : Kind) (message : List ℕ) : Result Order Check → Type 0 where
+  fails : (check : Check) → FirstToFail (message_tests kind fresh_settings message) check → Because kind message (Err check)
+  passes : (order : Order) → AllHold (message_tests kind fresh_settings message) → IsDone order → Because kind message (Ok order)
 
 -- What the check that fails expects is not so, with the opcode and type that this rests on. These are all that a check of a fresh box can expect: with
 -- the programs up to 0x23 (`message-meant`) and the whole lengths of the six forms (`as_the_table_says`) they are all the lines that can be printed.

@@ -1,17 +1,17 @@
 -- Laws of splitting and joining, over any length.
-use Prim.Native.Nat.{ℕ, zero, suc, ◌+◌, ◌*◌, ◌/◌, ◌%◌, ◌-◌, ◌≤◌}
+use Prim.Native.Nat.{ℕ, zero, suc, ◌+◌, ◌*◌, ◌/◌, ◌%◌, ◌-◌}
 use mathlib.Core.List.{List, [], ◌∷◌, ◌++◌}
-use mathlib.Core.Bool.{true, ◌&&◌}
+use mathlib.Core.Bool.{true}
 use mathlib.Core.Path.{◌≡◌, refl, ap, ◌∙◌}
 use native.Mathlib.Omega.{arith}
-use lib.Dec.{leb}
 use lib.ListN.{length, take, drop}
 use lib.Seq.{take-nil, drop-nil}
-use borrow.Author.Tests.{le-leb, leb-true, eq-eqb}
+use borrow.Author.Tests.{eq-eqb}
+use Rattle.std.proofs.lemmas.Bool.Decides.{nat_tests}
+use Rattle.std.specs.Prelude.{⊤, Result, Ok}
 use Rattle.ground.specs.Lists.{all_at_most}
-use Rattle.ground.proofs.Tests.{both, by}
-use Rattle.halves.specs.declared.Moved.{Moved}
-use Rattle.halves.specs.declared.Moved.TheVariants.{Done}
+use Rattle.ground.proofs.Tests.{by}
+use Rattle.halves.specs.declared.MoveError.{MoveError}
 use Rattle.halves.specs.HalfBytes.{split, join, join_any, all_halves}
 use Rattle.halves.specs.Moving.{Filled, filled, moved_number, fits, split_into, join_into, join_any_into}
 
@@ -23,51 +23,28 @@ pub join-split : (bytes : List ℕ) → join (split bytes) ≡ bytes
 join-split [] = refl
 join-split (x ∷ xs) = rw (whole x, join-split xs)
 
-high_half : (high low : ℕ) → low ≤ 15 → (high * 16 + low) / 16 ≡ high
-high_half high low p = omega arith
-
-low_half : (high low : ℕ) → low ≤ 15 → (high * 16 + low) % 16 ≡ low
-low_half high low p = omega arith
-
--- the first two half bytes of a list, and the rest
-two_halves : (high low : ℕ) (xs : List ℕ) → all_halves (high ∷ low ∷ xs) ≡ true → (high ≤ 15) × (low ≤ 15) × (all_halves xs ≡ true)
-two_halves high low xs c =
-    let p = both (leb high 15) (leb low 15 && all_halves xs) c in
-    let q = both (leb low 15) (all_halves xs) p.1 in
-    (leb-true high 15 p.0, leb-true low 15 q.0, q.1)
-
 -- splitting what was joined gives the half bytes back, where all are at most 0x0F and each has its partner
 pub split-join : (halves : List ℕ) (n : ℕ) → length halves ≡ 2 * n → all_halves halves ≡ true → split (join halves) ≡ halves
 split-join [] n e c = refl
 split-join (high ∷ []) n e c = absurd (omega arith)
-split-join (high ∷ low ∷ xs) n e c =
-    let t = two_halves high low xs c in
-    rw (high_half high low t.1, low_half high low t.1, split-join xs (n - 1) (omega arith) t.2)
+split-join (high ∷ low ∷ xs) n e c = grind (arith, nat_tests, split-join xs (n - 1))
 
 -- every half byte of a split is at most 0x0F
 pub split_halves : (bytes : List ℕ) → all_at_most 0xFF bytes ≡ true → all_halves (split bytes) ≡ true
 split_halves [] c = refl
-split_halves (x ∷ xs) c =
-    let p = both (leb x 255) (all_at_most 255 xs) c in
-    let b = leb-true x 255 p.0 in
-    rw (le-leb (x / 16) 15 (omega arith), le-leb (x % 16) 15 (omega arith)) (split_halves xs p.1)
+split_halves (x ∷ xs) c = grind (arith, nat_tests, split_halves xs)
 
 -- every byte of a join is a byte
 pub join-bytes : (halves : List ℕ) → all_halves halves ≡ true → all_at_most 0xFF (join halves) ≡ true
 join-bytes [] c = refl
 join-bytes (high ∷ []) c = refl
-join-bytes (high ∷ low ∷ xs) c =
-    let t = two_halves high low xs c in
-    rw (le-leb (high * 16 + low) 255 (omega arith)) (join-bytes xs t.2)
+join-bytes (high ∷ low ∷ xs) c = grind (arith, nat_tests, join-bytes xs)
 
 -- any bytes that are half bytes are joined as half bytes are
 pub join_any_halves : (halves : List ℕ) → all_halves halves ≡ true → join_any halves ≡ join halves
 join_any_halves [] c = refl
 join_any_halves (high ∷ []) c = refl
-join_any_halves (high ∷ low ∷ xs) c =
-    let t = two_halves high low xs c in
-    let byte : (high * 16 + low) % 256 ≡ high * 16 + low = omega arith in
-    rw (byte, join_any_halves xs t.2)
+join_any_halves (high ∷ low ∷ xs) c = grind (arith, nat_tests, join_any_halves xs)
 
 pub length-split : (bytes : List ℕ) → length (split bytes) ≡ 2 * length bytes
 length-split [] = refl
@@ -99,19 +76,19 @@ drop-join (suc k) (high ∷ []) = rw (two_more k, drop-nil (suc (2 * k)))
 drop-join (suc k) (high ∷ low ∷ xs) = rw (two_more k) (drop-join k xs)
 
 -- What a caller may count on: all is moved where the lengths fit, and the half bytes are half bytes.
-split_done : (bytes halves : List ℕ) → length halves ≡ 2 * length bytes → split_into bytes halves ≡ filled Done (split bytes)
+split_done : (bytes halves : List ℕ) → length halves ≡ 2 * length bytes → split_into bytes halves ≡ filled (Ok tt) (split bytes)
 unfolding split_into
 split_done bytes halves e = rw (eq-eqb (length halves) (2 * length bytes) e)
 
-join_done : (halves bytes : List ℕ) → length halves ≡ 2 * length bytes → all_halves halves ≡ true → join_into halves bytes ≡ filled Done (join halves)
+join_done : (halves bytes : List ℕ) → length halves ≡ 2 * length bytes → all_halves halves ≡ true → join_into halves bytes ≡ filled (Ok tt) (join halves)
 unfolding join_into
 join_done halves bytes e h = rw (eq-eqb (length halves) (2 * length bytes) e, h)
 
 -- what a call leaves in a buffer that fits
-pub split-leaves : (bytes halves x : List ℕ) (r : Moved) → filled r x ≡ split_into bytes halves → length halves ≡ 2 * length bytes → x ≡ split bytes
+pub split-leaves : (bytes halves x : List ℕ) (r : Result ⊤ MoveError) → filled r x ≡ split_into bytes halves → length halves ≡ 2 * length bytes → x ≡ split bytes
 split-leaves bytes halves x r e h = ap (λ (l : Filled). l.buffer) (e ∙ split_done bytes halves h)
 
-pub join-leaves : (halves bytes x : List ℕ) (r : Moved) → filled r x ≡ join_into halves bytes → length halves ≡ 2 * length bytes → all_halves halves ≡ true
+pub join-leaves : (halves bytes x : List ℕ) (r : Result ⊤ MoveError) → filled r x ≡ join_into halves bytes → length halves ≡ 2 * length bytes → all_halves halves ≡ true
     → x ≡ join halves
 join-leaves halves bytes x r e h a = ap (λ (l : Filled). l.buffer) (e ∙ join_done halves bytes h a)
 
@@ -120,7 +97,7 @@ pub join_any_same : (halves bytes : List ℕ) → all_halves halves ≡ true →
 unfolding join_into join_any_into
 join_any_same halves bytes h = rw (h, join_any_halves halves h)
 
-pub join_any-leaves : (halves bytes x : List ℕ) (r : Moved) → filled r x ≡ join_any_into halves bytes → length halves ≡ 2 * length bytes → all_halves halves ≡ true
+pub join_any-leaves : (halves bytes x : List ℕ) (r : Result ⊤ MoveError) → filled r x ≡ join_any_into halves bytes → length halves ≡ 2 * length bytes → all_halves halves ≡ true
     → x ≡ join halves
 join_any-leaves halves bytes x r e h a = join-leaves halves bytes x r (e ∙ join_any_same halves bytes a) h a
 

@@ -1,3 +1,2 @@
 pub mod HalfBytes
 pub mod Moving
-pub mod Private

@@ -1,7 +1,7 @@
 // Whether each byte of a list is 0 or 1. Eight bytes are looked at as one number, which the compiler reads as one.
-ghost use Rattle.std.specs.Prelude.{◌≡◌, ◌+◌, ◌≤◌, ◌<◌, length};
+ghost use Rattle.std.specs.Prelude.{◌≡◌};
+ghost use Rattle.std.specs.List.{list_all};
 ghost use Rattle.ground.specs.Lists.{all_at_most};
-ghost use Rattle.halves.specs.Private.{flags, clear};
 
 use crate::all_at_most;
 
@@ -10,47 +10,23 @@ use crate::all_at_most;
 pub fn all_flags(list: &[u8]) -> bool
     ensures { result ≡ all_at_most 1 list.now }
 {
-    if list.len() < 8 {
+    let Some(last) = list.last_chunk::<8>() else {
         return all_at_most(list, 1);
-    }
-    let last = list.len() - 8;
-    let mut i = 0;
-    while i < last {
-        if eight(list, i) {
-            i += 8;
-        } else {
-            return false;
-        }
-    }
-    eight(list, last)
+    };
+    let (eights, _) = list.as_chunks::<8>();
+    each_are_flags(eights) && are_flags(last)
+}
+
+fn each_are_flags(eights: &[[u8; 8]]) -> bool
+    ensures { result ≡ list_all (all_at_most 1) eights.now }
+{
+    eights.iter().all(|eight| are_flags(eight))
 }
 
 // Whether each of eight bytes is at most 1: no bit of theirs but the lowest is set.
-fn eight(list: &[u8], at: usize) -> bool
-    requires { at + 8 ≤ length list.now }
-    ensures { result ≡ flags 8 at list.now }
+#[tactic(auto, using(crate::proofs::Clear::eight_clear))]
+fn are_flags(eight: &[u8; 8]) -> bool
+    ensures { result ≡ all_at_most 1 eight.now }
 {
-    let word = four(list, at) + 4294967296 * four(list, at + 4);
-    word & 0xFEFE_FEFE_FEFE_FEFE == 0
-}
-
-fn four(list: &[u8], at: usize) -> u64
-    requires { at + 4 ≤ length list.now }
-    ensures { (result < 4294967296) × (clear 0xFEFEFEFE result ≡ flags 4 at list.now) }
-{
-    two(list, at) + 65536 * two(list, at + 2)
-}
-
-fn two(list: &[u8], at: usize) -> u64
-    requires { at + 2 ≤ length list.now }
-    ensures { (result < 65536) × (clear 0xFEFE result ≡ flags 2 at list.now) }
-{
-    one(list, at) + 256 * one(list, at + 1)
-}
-
-fn one(list: &[u8], at: usize) -> u64
-    requires { at < length list.now }
-    ensures { (result < 256) × (clear 0xFE result ≡ flags 1 at list.now) }
-{
-    list[at] as u64
+    u64::from_le_bytes(*eight) & 0xFEFE_FEFE_FEFE_FEFE == 0
 }

@@ -1,109 +1,92 @@
 // Bytes and half bytes, over any length.
-#![tactic(auto)]
+#![tactic(auto, unfolding(crate::specs::Moving::split_into, crate::specs::Moving::join_into, crate::specs::Moving::join_any_into), using(ground::proofs::Tests::tests))]
 
 mod flags;
 
-ghost use Rattle.std.specs.Prelude.{◌≡◌, ◌*◌, ◌+◌, ◌%◌, max, length};
+ghost use Rattle.std.specs.Prelude.{◌≡◌, ◌*◌, ◌+◌, ◌%◌, max, fold, length};
 ghost use Rattle.ground.specs.Lists.{all_at_most};
 ghost use Rattle.halves.specs.HalfBytes.{split, join_any};
 ghost use Rattle.halves.specs.Moving.{filled, split_into, join_into, join_any_into};
 
 pub use flags::all_flags;
 
-// How splitting or joining ended. Nothing is written unless it is `Done`.
-#[derive(Clone, Copy)]
-pub enum Moved {
-    Done,
+// The highest half byte.
+pub const HALF: u8 = 0x0F;
+
+// Why nothing was split or joined. Nothing is written then.
+#[derive(Clone, Copy, Debug, PartialEq, Eq)]
+pub enum MoveError {
     // There are not two half bytes for each byte.
     Misfit,
     // A half byte is above 0x0F.
     Above,
 }
 
-// Whether each byte of the list is at most `top`. The loop has no way out before its end, so that the compiler can look
-// at many bytes at once.
+// Whether each byte of the list is at most `top`.
+#[tactic(auto, using(crate::proofs::Turns::most_at_most))]
 pub fn all_at_most(list: &[u8], top: u8) -> bool
     ensures { result ≡ all_at_most top list.now }
 {
-    let mut most = 0;
-    let mut i = 0;
-    while i < list.len() {
-        most = larger(most, list[i]);
-        i += 1;
-    }
-    most <= top
+    most(list) <= top
 }
 
-// The larger of two bytes.
-fn larger(a: u8, b: u8) -> u8
-    ensures { result ≡ max a b }
+// The largest byte, or 0. The fold has no way out before its end, so that the compiler can look at many bytes at once.
+fn most(list: &[u8]) -> u8
+    ensures { result ≡ fold max 0 list.now }
 {
-    if a < b {
-        return b;
-    }
-    a
+    list.iter().fold(0, |most, byte| most.max(*byte))
 }
 
 // Each byte as its high half, then its low half.
-pub fn split_into(bytes: &[u8], halves: &mut [u8]) -> Moved
+pub fn split_into(bytes: &[u8], halves: &mut [u8]) -> Result<(), MoveError>
     ensures { filled result halves.new ≡ split_into bytes.now halves.old }
 {
     if halves.len() != 2 * bytes.len() {
-        return Moved::Misfit;
+        return Err(MoveError::Misfit);
     }
     split_all(bytes, halves);
-    Moved::Done
+    Ok(())
 }
 
 fn split_all(bytes: &[u8], halves: &mut [u8])
     requires { length halves.old ≡ 2 * length bytes.now }
     ensures { halves.new ≡ split bytes.now }
 {
-    let mut i = 0;
-    let mut j = 0;
-    while i < bytes.len() {
-        halves[j] = bytes[i] / 16;
-        halves[j + 1] = bytes[i] % 16;
-        i += 1;
-        j += 2;
+    for (i, byte) in bytes.iter().enumerate() {
+        halves[2 * i] = byte / 16;
+        halves[2 * i + 1] = byte % 16;
     }
 }
 
 // Each two half bytes as one byte. All of them are looked at before the first byte is written.
-pub fn join_into(halves: &[u8], bytes: &mut [u8]) -> Moved
+#[tactic(auto, unfolding(crate::specs::Moving::join_into, crate::specs::Moving::join_any_into), using(crate::proofs::Laws::join_any_halves))]
+pub fn join_into(halves: &[u8], bytes: &mut [u8]) -> Result<(), MoveError>
     ensures { filled result bytes.new ≡ join_into halves.now bytes.old }
 {
-    if halves.len() != 2 * bytes.len() {
-        return Moved::Misfit;
+    if halves.len() == 2 * bytes.len() && !all_at_most(halves, HALF) {
+        return Err(MoveError::Above);
     }
-    if all_at_most(halves, 0x0F) {
-        join_all(halves, bytes);
-        return Moved::Done;
-    }
-    Moved::Above
+    join_any(halves, bytes)
 }
 
 // Each two bytes as one, without a look at them: for half bytes that were looked at before.
-pub fn join_any(halves: &[u8], bytes: &mut [u8]) -> Moved
+pub fn join_any(halves: &[u8], bytes: &mut [u8]) -> Result<(), MoveError>
     ensures { filled result bytes.new ≡ join_any_into halves.now bytes.old }
 {
     if halves.len() == 2 * bytes.len() {
         join_all(halves, bytes);
-        return Moved::Done;
+        return Ok(());
     }
-    Moved::Misfit
+    Err(MoveError::Misfit)
 }
 
+#[tactic(auto, using(crate::proofs::Turns::join_turn))]
 fn join_all(halves: &[u8], bytes: &mut [u8])
     requires { length halves.now ≡ 2 * length bytes.old }
     ensures { bytes.new ≡ join_any halves.now }
 {
-    let mut i = 0;
-    let mut j = 0;
-    while i < bytes.len() {
-        bytes[i] = joined(halves[j], halves[j + 1]);
-        i += 1;
-        j += 2;
+    for (i, byte) in bytes.iter_mut().enumerate() {
+        *byte = joined(halves[2 * i], halves[2 * i + 1]);
     }
 }
 

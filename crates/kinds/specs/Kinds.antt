@@ -19,8 +19,8 @@ unfoldable pub kind_of : ℕ → Kind
 kind_of kind_number = cond (eqb kind_number 1) BassPod (cond (eqb kind_number 2) PodPro Pod)
 
 -- a number's kind, or its refusal
-unfoldable pub kind_numbered : ℕ → Result Kind Refusal
-kind_numbered kind_number = tested (kind_test kind_number ∷ []) Err (Ok (kind_of kind_number))
+unfoldable pub kind_from : ℕ → Result Kind Refusal
+kind_from kind_number = tested (kind_test kind_number ∷ []) Err (Ok (kind_of kind_number))
 
 -- the kind that a program's word names: `pod`, `bass` or `pro`, and no other word names one
 pub record IsKindNamed (word : List ℕ) (kind : Result Kind Refusal) : Type 0 where

@@ -1,5 +1,5 @@
 // The kinds of unit that a box may be set as, and all that hangs on the kind: a further kind is a case more of each `match`.
-#![tactic(auto, unfolding(crate::specs::Kinds::kind_numbered, crate::specs::Kinds::is_kind, crate::specs::Kinds::kind_of, crate::specs::Kinds::size_of, crate::specs::Kinds::has_spare, crate::specs::Kinds::device_of, crate::specs::Kinds::identity_of, crate::specs::Kinds::takes_program_change, crate::specs::Kinds::highest_model, crate::specs::Kinds::is_known_model))]
+#![tactic(auto, unfolding(crate::specs::Kinds::kind_from, crate::specs::Kinds::is_kind, crate::specs::Kinds::kind_of, crate::specs::Kinds::size_of, crate::specs::Kinds::has_spare, crate::specs::Kinds::device_of, crate::specs::Kinds::identity_of, crate::specs::Kinds::takes_program_change, crate::specs::Kinds::highest_model, crate::specs::Kinds::is_known_model))]
 
 ghost use Rattle.std.specs.Prelude.{◌≡◌};
 ghost use Rattle.kinds.specs.Kinds.{is_kind, kind_of, size_of, has_spare, device_of, header_of, identity_of, takes_program_change, highest_model, is_known_model};
@@ -45,11 +45,11 @@ pub fn kind_of(number: u32) -> Kind
 // The kind of a number, or its refusal.
 impl TryFrom<u32> for Kind {
     ghost use Rattle.std.specs.Prelude.{◌≡◌};
-    ghost use Rattle.kinds.specs.Kinds.{kind_numbered};
+    ghost use Rattle.kinds.specs.Kinds.{kind_from};
 
     type Error = Refusal;
 
-    ghost try_from_gives = { λ number kind. kind ≡ kind_numbered number };
+    ghost try_from_gives = { λ number kind. kind ≡ kind_from number };
 
     fn try_from(number: u32) -> Result<Kind, Refusal> {
         if is_kind(number) {

@@ -4,48 +4,45 @@
 ghost use Rattle.std.specs.Prelude.{◌≡◌};
 ghost use Rattle.places.specs.Places.{first_bad};
 
-use halves::all_at_most;
-
-// The highest half byte.
-pub const HALF: u8 = 0x0F;
+use halves::{HALF, all_at_most};
 
 // Where the first half byte above 0x0F stands: its place, from 0, and the program that it spoils.
-#[derive(Clone, Copy)]
-pub enum Found {
-    At(usize, usize),
-    Nowhere,
+#[derive(Clone, Copy, Debug, PartialEq, Eq)]
+pub struct Bad {
+    pub place: usize,
+    pub program: usize,
 }
 
 // The first bad one of `programs` programs, of `per` half bytes each. Most data is good, so all of it is looked at first,
 // by the loop that the compiler makes quick, and place after place only where that failed.
-pub fn first_bad(halves: &[u8], programs: usize, per: usize) -> Found
+#[tactic(auto, using(crate::proofs::Searching::none_at_all))]
+pub fn first_bad(halves: &[u8], programs: usize, per: usize) -> Option<Bad>
     ensures { result ≡ first_bad programs per halves.now }
 {
     if all_at_most(halves, HALF) {
-        return Found::Nowhere;
+        return None;
     }
     searched(halves, programs, per)
 }
 
-// Program after program and half byte after half byte, as far as they go.
-fn searched(halves: &[u8], programs: usize, per: usize) -> Found
+// Program after program and half byte after half byte, as far as they go: nested loops left by label at the first bad one,
+// the form that document 01 names.
+#[tactic(auto, using(crate::proofs::Searching::one_more, crate::proofs::Searching::none_to_the_end, crate::proofs::Searching::none_looked))]
+fn searched(halves: &[u8], programs: usize, per: usize) -> Option<Bad>
     ensures { result ≡ first_bad programs per halves.now }
 {
-    let mut place = 0;
-    let mut program = 0;
-    'programs: loop {
-        if programs <= program {
-            break 'programs Found::Nowhere;
-        }
-        for half in 0..per {
-            if halves.len() <= place {
-                break 'programs Found::Nowhere;
+    'programs: {
+        for program in 0..programs {
+            for half in 0..per {
+                let place = program * per + half;
+                if halves.len() <= place {
+                    break 'programs None;
+                }
+                if HALF < halves[place] {
+                    break 'programs Some(Bad { place, program });
+                }
             }
-            if HALF < halves[place] {
-                break 'programs Found::At(place, program);
-            }
-            place += 1;
         }
-        program += 1;
+        None
     }
 }

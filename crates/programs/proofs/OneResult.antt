@@ -9,7 +9,7 @@ use Rattle.std.specs.Prelude.{Result}
 use Rattle.ground.specs.declared.Refusal.{Refusal}
 use Rattle.programs.specs.declared.Target.{Target}
 use Rattle.programs.specs.Held.{place_for, count_for, slot_for, slots_for}
-use Rattle.programs.specs.Memory.{is_player, player_of, player_numbered, edit_slot, edit_place, memory_size}
+use Rattle.programs.specs.Memory.{is_player, player_of, player_from, edit_slot, edit_place, memory_size}
 
 pub is_player-one : (player_number : ℕ) (r s : Bool) → r ≡ is_player player_number → s ≡ is_player player_number → r ≡ s
 is_player-one player_number r s = one
@@ -17,7 +17,7 @@ is_player-one player_number r s = one
 pub player_of-one : (player_number : ℕ) (r s : Player) → r ≡ player_of player_number → s ≡ player_of player_number → r ≡ s
 player_of-one player_number r s = one
 
-pub try_from-one : (player_number : ℕ) (r s : Result Player Refusal) → r ≡ player_numbered player_number → s ≡ player_numbered player_number → r ≡ s
+pub try_from-one : (player_number : ℕ) (r s : Result Player Refusal) → r ≡ player_from player_number → s ≡ player_from player_number → r ≡ s
 try_from-one player_number r s = one
 
 pub edit_slot-one : (player : Player) (r s : ℕ) → r ≡ edit_slot player → s ≡ edit_slot player → r ≡ s

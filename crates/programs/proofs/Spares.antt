@@ -102,14 +102,3 @@ all_set-ones (suc n) = all_set-ones n
 
 pub not_all_set : (n : ℕ) → all_set (replicate (suc n) 0) ≡ false
 not_all_set n = refl
-
--- What one mark more keeps: the marks are all set where those that are left are.
-module _ (marks : List ℕ) (i : ℕ) (inv : all_set (drop i marks) ≡ all_set marks) where
-  pub not_set : i < length marks → (get_or marks i 0 ≡ 1 → ⊥) → false ≡ all_set marks
-  not_set h n = rw (drop-one marks i h, ne_eqb (get_or marks i 0) 1 n) at inv
-
-  pub set_turn : i < length marks → get_or marks i 0 ≡ 1 → all_set (drop (i + 1) marks) ≡ all_set marks
-  set_turn h e = rw (drop-one marks i h, eq-eqb (get_or marks i 0) 1 e) at inv
-
-  pub set-end : length marks ≤ i → true ≡ all_set marks
-  set-end h = rw (drop_of_length-le marks h) at inv

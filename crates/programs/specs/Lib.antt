@@ -1,3 +1,4 @@
 pub mod Memory
 pub mod Spares
 pub mod Held
+pub mod Lending

@@ -32,8 +32,8 @@ unfoldable pub player_of : ℕ → Player
 player_of player_number = cond (eqb player_number 0) players.One players.Two
 
 -- a number's player, or its refusal
-unfoldable pub player_numbered : ℕ → Result Player Refusal
-player_numbered player_number = tested (player_test player_number ∷ []) Err (Ok (player_of player_number))
+unfoldable pub player_from : ℕ → Result Player Refusal
+player_from player_number = tested (player_test player_number ∷ []) Err (Ok (player_of player_number))
 
 -- "each has an edit buffer, both share the 36 programs. Memory grows by one edit buffer, player two's, last."
 unfoldable pub edit_slot : Player → ℕ

@@ -1,5 +1,6 @@
 -- Programs without their spare bytes, as a short dump has them, and the marks of which programs came with theirs.
-use Rattle.std.specs.Prelude.{ℕ, zero, suc, ◌-◌, Bool, true, ◌&&◌, List, [], ◌∷◌, ◌++◌, eqb, take, drop}
+use Rattle.std.specs.Prelude.{ℕ, zero, suc, ◌-◌, Bool, List, [], ◌∷◌, ◌++◌, eqb, take, drop}
+use Rattle.std.specs.List.{list_all}
 
 -- n programs of `size` bytes, of which the last is spare. "A short dump sets the spare byte to 0": a 0 behind the bytes of each program
 unfoldable pub with_spares : ℕ → ℕ → List ℕ → List ℕ
@@ -13,5 +14,4 @@ without_spares size (suc n) bytes = take (size - 1) bytes ++ without_spares size
 
 -- "long only if all 36 marks are set": each of these marks is 1
 abbrev pub all_set : List ℕ → Bool
-all_set [] = true
-all_set (m ∷ marks) = eqb m 1 && all_set marks
+all_set marks = list_all (λ mark. eqb mark 1) marks

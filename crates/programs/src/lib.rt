@@ -1,12 +1,15 @@
 // The programs and the players' edit buffers in memory: how many there are, and where they stand. All lengths of the box
 // derive from these and from the kind.
-#![tactic(auto, unfolding(crate::specs::Memory::player_numbered, crate::specs::Memory::is_player, crate::specs::Memory::player_of, crate::specs::Memory::edit_slot))]
+#![tactic(auto, unfolding(crate::specs::Memory::player_from, crate::specs::Memory::is_player, crate::specs::Memory::player_of, crate::specs::Memory::edit_slot))]
+
+mod held;
 
 ghost use Rattle.std.specs.Prelude.{◌≡◌};
 ghost use Rattle.programs.specs.Memory.{is_player, player_of, edit_slot, edit_place, memory_size};
 ghost use Rattle.programs.specs.Held.{place_for, count_for, slot_for, slots_for};
 
 use ground::Refusal;
+pub use held::Held;
 use kinds::Kind;
 
 pub const PROGRAMS: usize = 36;
@@ -41,11 +44,11 @@ pub fn player_of(number: u32) -> Player
 // The player of a number, or its refusal.
 impl TryFrom<u32> for Player {
     ghost use Rattle.std.specs.Prelude.{◌≡◌};
-    ghost use Rattle.programs.specs.Memory.{player_numbered};
+    ghost use Rattle.programs.specs.Memory.{player_from};
 
     type Error = Refusal;
 
-    ghost try_from_gives = { λ number player. player ≡ player_numbered number };
+    ghost try_from_gives = { λ number player. player ≡ player_from number };
 
     fn try_from(number: u32) -> Result<Player, Refusal> {
         if is_player(number) {

@@ -1,6 +1,7 @@
 -- A part of lent memory that a function hands over: all that a machine knows of it.
-use Rattle.std.specs.Prelude.{ℕ, ◌+◌, List}
+use Rattle.std.specs.Prelude.{ℕ, ◌+◌, List, Result, Ok, Err}
 use Rattle.std.specs.Borrow.{Bor}
+use Rattle.ground.specs.declared.Refusal.{Refusal}
 use Rattle.programs.specs.Memory.{part_of}
 
 -- a slice of bytes as it is lent: `.ref_ptr` is where it begins, a block of memory and a place in it, and `.now` its bytes
@@ -28,6 +29,13 @@ pub record Shown : Type 0 where
 abbrev pub showing : ℕ → Part → Shown
 showing number part = record { number = number; part = part }
 
--- the same of a part as a function returns it
+-- the same of a part as a function returns it: alone, with a number, or where nothing is refused
+abbrev pub part : Slice → Part
+part slice = record { place = slice.ref_ptr; bytes = slice.now }
+
 abbrev pub shown : ℕ → Slice → Shown
-shown number part = showing number (record { place = part.ref_ptr; bytes = part.now })
+shown number slice = showing number (part slice)
+
+abbrev pub returned : Result Slice Refusal → Result Part Refusal
+returned (Ok slice) = Ok (part slice)
+returned (Err refusal) = Err refusal

@@ -1,41 +1,19 @@
 -- What holds of a body that begins with the header and passes every test.
-use Prim.Native.Nat.{ℕ, ◌+◌, ◌≤◌}
-use mathlib.Core.Bool.{Bool, true, false, ◌&&◌, ◌||◌}
+use Prim.Native.Nat.{ℕ, ◌≤◌}
+use mathlib.Core.Bool.{true, false, ◌&&◌}
 use mathlib.Core.List.{List}
 use mathlib.Core.Logic.{◌⊎◌, inl, inr, ⊎_elim}
 use mathlib.Core.Path.{◌≡◌}
-use native.Mathlib.Omega.{arith}
 use lib.Dec.{eqb, leb}
 use lib.ListN.{length, get_or, drop}
 use borrow.Author.Tests.{eqb-true, leb-true}
 use Rattle.ground.specs.Tests.{AllHold}
-use Rattle.ground.proofs.Tests.{both, one_of, by}
+use Rattle.ground.proofs.Tests.{both, one_of}
 use Rattle.halves.specs.HalfBytes.{all_halves}
 use Rattle.kinds.specs.declared.Kind.{Kind}
 use Rattle.kinds.specs.Kinds.{header_of}
-use Rattle.sysex.specs.Forms.{begins, opcode_of, type_of, program_of, request, dump, program, all, version, version_place, data_place, data_count, body_length, shortest}
+use Rattle.sysex.specs.Forms.{begins, opcode_of, type_of, program_of, request, dump, all, version, version_place, data_place, body_length, shortest}
 use Rattle.sysex.specs.Judging.{has_program, data_tests, form_tests}
-
--- the version stands among the first bytes
-pub version_low : (type place : ℕ) → place ≡ version_place type → place ≤ 8
-version_low type place e = rw e (by (λ (n : ℕ). n ≤ 8) (eqb type program) 8 7 (λ _. omega arith) (λ _. omega arith))
-
--- no body of an opcode and type is shorter than a short one
-least : (kind : Kind) (long : Bool) (opcode type : ℕ) → body_length kind false opcode type ≤ body_length kind long opcode type
-unfolding body_length
-least kind false opcode type = omega arith
-least kind true opcode type =
-    by (λ (n : ℕ). n ≤ body_length kind true opcode type) (eqb opcode request) (version_place type) (data_place type + data_count kind false type)
-    (λ t. rw t (omega arith))
-    (λ t. rw t (by (λ (n : ℕ). data_place type + n ≤ data_place type + data_count kind true type) (eqb type all) _ _ (λ u. rw u (omega arith)) (λ u. rw u (omega arith))))
-
-pub at_least : (kind : Kind) (opcode type n length other : ℕ) → length ≡ body_length kind true opcode type → other ≡ body_length kind (shortest kind) opcode type
-    → (eqb n length || eqb n other) ≡ true → body_length kind false opcode type ≤ n
-at_least kind opcode type n length other e f t =
-    ⊎_elim
-    (λ u. let same = eqb-true n length u in omega (arith, least kind true opcode type))
-    (λ u. let same = eqb-true n other u in omega (arith, least kind (shortest kind) opcode type))
-    (one_of (eqb n length) (eqb n other) t)
 
 -- a body that begins with the header and passes every test
 pub record Right (kind : Kind) (body : List ℕ) : Type 0 where

@@ -14,6 +14,9 @@ pub as_the_table_says : map (λ (row : Lengths). derived row.kind) lengths ≡ l
 unfolding size_of has_spare name_place body_length
 as_the_table_says = refl
 
+-- what the check takes of a program's size: it has a byte, and no more than the largest
+pub ruleset bounds = (size-bounds)
+
 -- the longest message of any kind
 pub longest_bounds : (kind : Kind) → (10 ≤ longest kind) × (longest kind ≤ 9 + 2 * (program_count * largest))
 longest_bounds kind = let size = size-bounds kind in (omega arith, omega arith)

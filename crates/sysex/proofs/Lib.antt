@@ -1,4 +1,3 @@
-pub mod Reading
 pub mod Judged
 pub mod Numbered
 pub mod OneResult

@@ -1,5 +1,5 @@
 -- What a dump, a request and an identity request are, said without the judge: as formats.
-use Rattle.std.specs.Prelude.{ℕ, ◌≤◌, Bool, true, false, List, ◌≡◌, length, drop}
+use Rattle.std.specs.Prelude.{ℕ, ◌≤◌, Bool, true, false, List, ◌≡◌, length, drop, Result, Ok, Err}
 use Rattle.ground.specs.Lists.{all_at_most}
 use Rattle.halves.specs.HalfBytes.{join}
 use Rattle.kinds.specs.declared.Kind.{Kind}
@@ -11,7 +11,7 @@ use Rattle.programs.specs.Held.{sent_for}
 use Rattle.sysex.specs.declared.Settings.{Settings}
 use Rattle.sysex.specs.declared.Check.{Check}
 use Rattle.sysex.specs.declared.Order.{Order}
-use Rattle.sysex.specs.declared.Order.TheVariants.{Identify, SendProgram, SendEdit, SendAll, StoreProgram, StoreEdit, StoreAll, Refused}
+use Rattle.sysex.specs.declared.Order.TheVariants.{Identify, Send, Store}
 use Rattle.sysex.specs.Forms.{type_for, data_place, request_body, dump_body, is_long, identity_body, is_our_channel}
 
 -- the program is one of the 36
@@ -38,20 +38,9 @@ pub record IsIdentity (settings : Settings) (cc : ℕ) (body : List ℕ) : Type 
   pub ours : is_our_channel settings cc ≡ true
   pub form : body ≡ identity_body cc
 
--- the orders that they are
-abbrev pub send_order : Target → Order
-send_order (One p) = SendProgram p
-send_order Edit = SendEdit
-send_order All = SendAll
-
-abbrev pub store_order : Target → Order
-store_order (One p) = StoreProgram p
-store_order Edit = StoreEdit
-store_order All = StoreAll
-
 -- what an order says of a body: it is of the order's format; of a refusal nothing is said
-pub data Meant (kind : Kind) (settings : Settings) (body : List ℕ) : Order → Type 0 where
-  identity : (cc : ℕ) → IsIdentity settings cc body → Meant kind settings body (Identify cc)
-  asked : (t : Target) → IsRequest kind t body → Meant kind settings body (send_order t)
-  dumped : (t : Target) → IsDump kind t (is_long kind t body) (join (drop (data_place (type_for t)) body)) body → Meant kind settings body (store_order t)
-  unsaid : (check : Check) → Meant kind settings body (Refused check)
+pub data Meant (kind : Kind) (settings : Settings) (body : List ℕ) : Result Order Check → Type 0 where
+  identity : (cc : ℕ) → IsIdentity settings cc body → Meant kind settings body (Ok (Identify cc))
+  asked : (t : Target) → IsRequest kind t body → Meant kind settings body (Ok (Send t))
+  dumped : (t : Target) → IsDump kind t (is_long kind t body) (join (drop (data_place (type_for t)) body)) body → Meant kind settings body (Ok (Store t))
+  unsaid : (check : Check) → Meant kind settings body (Err check)

@@ -110,6 +110,10 @@ identity_body cc = 0xF0 ∷ 0x7E ∷ cc ∷ 0x06 ∷ 0x01 ∷ []
 unfoldable pub is_identity : List ℕ → Bool
 is_identity body = eqb (length body) 5 && (leb (get_or body 2 0) 0x7F && begins (identity_body (get_or body 2 0)) body)
 
+-- "channel" and "omni": on the box's channel, or on any where omni is on
+unfoldable pub hears : Settings → ℕ → Bool
+hears settings channel = cond (eqb channel settings.channel) true (eqb settings.omni 1)
+
 -- "Taken when cc is the channel, or 7F, or omni is on"
 unfoldable pub is_our_channel : Settings → ℕ → Bool
 is_our_channel settings cc = cond (eqb cc settings.channel) true (cond (eqb cc 0x7F) true (eqb settings.omni 1))

@@ -1,21 +1,23 @@
 -- "A finished SysEx is tested 10, 11, 12, 13, 14, 15, 16": from 11 on, where its length is known to be in bounds.
 -- Behind 11 they are one list (further_tests), and the judge and the reason for a refusal both go by it.
-use Rattle.std.specs.Prelude.{ℕ, Bool, true, cond, ◌&&◌, ◌||◌, List, [], ◌∷◌, eqb, leb, length, get_or, drop}
+use Rattle.std.specs.Prelude.{ℕ, Bool, true, cond, ◌&&◌, ◌||◌, List, [], ◌∷◌, eqb, leb, length, get_or, drop, Result, Ok, Err}
 use Rattle.ground.specs.Tests.{Test, test, tested}
 use Rattle.halves.specs.HalfBytes.{all_halves}
 use Rattle.kinds.specs.declared.Kind.{Kind}
 use Rattle.kinds.specs.Kinds.{device_of, header_of}
 use Rattle.programs.specs.Memory.{last_program}
+use Rattle.programs.specs.declared.Target.{Target}
+use Rattle.programs.specs.declared.Target.TheVariants.{One, Edit, All}
 use Rattle.sysex.specs.declared.Settings.{Settings}
 use Rattle.sysex.specs.declared.Check.{Check}
 use Rattle.sysex.specs.declared.Check.TheVariants.{Ours, OpcodeAndType, Length, Program, Version, HalfBytes, Channel}
 use Rattle.sysex.specs.declared.Order.{Order}
-use Rattle.sysex.specs.declared.Order.TheVariants.{Identify, SendProgram, SendEdit, SendAll, StoreProgram, StoreEdit, StoreAll, Refused}
+use Rattle.sysex.specs.declared.Order.TheVariants.{Identify, Send, Store}
 use Rattle.sysex.specs.Forms.{begins, opcode_of, type_of, program_of, request, dump, program, edit, all, version, version_place, data_place, body_length, whole_length, shortest, is_identity, is_our_channel}
 
 -- an order, unless a check fails
-abbrev pub judged_by : List (Test Check) → Order → Order
-judged_by tests order = tested tests Refused order
+abbrev pub judged_by : List (Test Check) → Order → Result Order Check
+judged_by tests order = tested tests Err (Ok order)
 
 -- 11 "not ours": "Any other 7E message is 11." "All the rest begins F0 00 01 0C 01", or the kind's own header, "else 11, too short included."
 unfoldable pub has_form : Kind → List ℕ → Bool
@@ -63,12 +65,13 @@ further_tests kind settings body = cond (is_identity body) (identity_tests setti
 abbrev pub tests_of : Kind → Settings → List ℕ → List (Test Check)
 tests_of kind settings body = test (Ours (device_of kind)) (has_form kind body) ∷ further_tests kind settings body
 
+-- what a type names, with "pp" where it is one program
+abbrev pub target_of : ℕ → ℕ → Target
+target_of type number = cond (eqb type program) (One number) (cond (eqb type edit) Edit All)
+
 -- what a body that passes them all asks for
 unfoldable pub order_of : ℕ → ℕ → ℕ → Order
-order_of opcode type number =
-    cond (eqb opcode request)
-    (cond (eqb type program) (SendProgram number) (cond (eqb type edit) SendEdit SendAll))
-    (cond (eqb type program) (StoreProgram number) (cond (eqb type edit) StoreEdit StoreAll))
+order_of opcode type number = cond (eqb opcode request) (Send (target_of type number)) (Store (target_of type number))
 
 abbrev pub form_order : List ℕ → Order
 form_order body = order_of (opcode_of body) (type_of body) (program_of body)
@@ -77,5 +80,5 @@ unfoldable pub body_order : List ℕ → Order
 body_order body = cond (is_identity body) (Identify (get_or body 2 0)) (form_order body)
 
 -- the judge: what a body asks for, or the first check that fails
-unfoldable pub judge_of : Kind → Settings → List ℕ → Order
+unfoldable pub judge_of : Kind → Settings → List ℕ → Result Order Check
 judge_of kind settings body = judged_by (tests_of kind settings body) (body_order body)

@@ -3,3 +3,4 @@ pub mod Lengths
 pub mod Numbers
 pub mod Judging
 pub mod Formats
+pub mod Private

@@ -1,59 +1,57 @@
 -- "Numbers the box returns".
-use Rattle.std.specs.Prelude.{ℕ, ◌⊎◌, ◌≡◌}
-use Rattle.sysex.specs.declared.Refusal.{Refusal}
+use Rattle.std.specs.Prelude.{ℕ, ◌⊎◌, ◌≡◌, Result, Ok, Err}
+use Rattle.ground.specs.declared.Refusal.{Refusal}
+use Rattle.ground.specs.declared.Refusal.TheVariants as refusal
+use Rattle.ground.specs.Refusals.{refusal_number}
 use Rattle.sysex.specs.declared.Answer.{Answer}
-use Rattle.sysex.specs.declared.Answer.TheVariants.{Taken, Stored, Sent, Applied, Cut, Refused}
+use Rattle.sysex.specs.declared.Answer.TheVariants.{Taken, Stored, Sent, Applied, Cut}
 use Rattle.sysex.specs.declared.Check.{Check}
 use Rattle.sysex.specs.declared.Check.TheVariants as check
 use Rattle.sysex.specs.declared.Order.{Order}
-use Rattle.sysex.specs.declared.Order.TheVariants as order
+use Rattle.sysex.specs.declared.Order.TheVariants.{Identify, Send, Store}
 
--- a refusal is its number: every one that the box answers is made here
-abbrev pub refusal : ℕ → Refusal
-refusal number = record { number = number }
+-- what the box answers, or why it refuses
+abbrev pub Answered : Type 0
+Answered = Result Answer Refusal
 
-abbrev pub refused : ℕ → Answer
-refused number = Refused (refusal number)
-
-abbrev pub answer_number : Answer → ℕ
-answer_number Taken = 0
-answer_number Stored = 1
-answer_number (Sent length) = 2
-answer_number Applied = 3
-answer_number Cut = 4
-answer_number (Refused r) = r.number
+abbrev pub answer_number : Answered → ℕ
+answer_number (Ok Taken) = 0
+answer_number (Ok Stored) = 1
+answer_number (Ok (Sent length)) = 2
+answer_number (Ok Applied) = 3
+answer_number (Ok Cut) = 4
+answer_number (Err r) = refusal_number r
 
 -- "The reply length is 0 unless the number is 2."
-abbrev pub answer_length : Answer → ℕ
-answer_length Taken = 0
-answer_length Stored = 0
-answer_length (Sent length) = length
-answer_length Applied = 0
-answer_length Cut = 0
-answer_length (Refused r) = 0
+abbrev pub answer_length : Answered → ℕ
+answer_length (Ok Taken) = 0
+answer_length (Ok Stored) = 0
+answer_length (Ok (Sent length)) = length
+answer_length (Ok Applied) = 0
+answer_length (Ok Cut) = 0
+answer_length (Err r) = 0
 
--- 10 "SysEx too long", 11 "not ours", and so on: the number of a check that fails
+-- 10 "SysEx too long", 11 "not ours", and so on: why a message is refused that fails a check, and the number
+abbrev pub refusal_for : Check → Refusal
+refusal_for (check.TooLong most) = refusal.TooLong
+refusal_for (check.Ours device) = refusal.NotOurs
+refusal_for check.OpcodeAndType = refusal.OpcodeOrType
+refusal_for (check.Length long shortest) = refusal.WrongLength
+refusal_for (check.Program highest) = refusal.NoProgram
+refusal_for (check.Version right) = refusal.WrongVersion
+refusal_for (check.HalfBytes highest) = refusal.NoHalfByte
+refusal_for (check.Channel ours) = refusal.OtherIdentity
+
 abbrev pub check_number : Check → ℕ
-check_number (check.TooLong most) = 10
-check_number (check.Ours device) = 11
-check_number check.OpcodeAndType = 12
-check_number (check.Length long shortest) = 13
-check_number (check.Program highest) = 14
-check_number (check.Version right) = 15
-check_number (check.HalfBytes highest) = 16
-check_number (check.Channel ours) = 22
+check_number check = refusal_number (refusal_for check)
 
--- 1 "dump stored", 2 "reply written": the number of a message with this order
-abbrev pub order_number : Order → ℕ
-order_number (order.Identify cc) = 2
-order_number (order.SendProgram p) = 2
-order_number order.SendEdit = 2
-order_number order.SendAll = 2
-order_number (order.StoreProgram p) = 1
-order_number order.StoreEdit = 1
-order_number order.StoreAll = 1
-order_number (order.Refused check) = check_number check
+-- 1 "dump stored", 2 "reply written": the number of a message with this order, or that fails a check
+abbrev pub order_number : Result Order Check → ℕ
+order_number (Ok (Identify cc)) = 2
+order_number (Ok (Send t)) = 2
+order_number (Ok (Store t)) = 1
+order_number (Err check) = check_number check
 
 -- an order that is carried out: 1 "dump stored" or 2 "reply written"
 abbrev pub IsDone : Order → Type 0
-IsDone o = (order_number o ≡ 1) ⊎ (order_number o ≡ 2)
+IsDone o = (order_number (Ok o) ≡ 1) ⊎ (order_number (Ok o) ≡ 2)

@@ -1,227 +1,217 @@
 // The tests of a body, in their order.
-ghost use Rattle.std.specs.Prelude.{◌≡◌, true, false, ◌||◌, ◌≤◌, ◌+◌, ◌*◌, eqb, length};
-ghost use Rattle.programs.specs.Memory.{program_count};
-ghost use Rattle.programs.specs.Held.{sent_size};
-ghost use Rattle.sysex.specs.Forms.{program_of, version_place, data_place, data_count, body_length, shortest, longest, is_identity, is_our_channel};
-ghost use Rattle.sysex.specs.Judging.{judged_by, identity_tests, form_tests, field_tests, data_tests, has_program, order_of, form_order, judge_of};
+ghost use Rattle.std.specs.Prelude.{◌≡◌, ◌<◌, length};
+ghost use Rattle.programs.specs.Held.{sent_for};
+ghost use Rattle.sysex.specs.Forms.{version_place, body_length, longest, type_for};
+ghost use Rattle.sysex.specs.Judging.{judged_by, form_tests, form_order, judge_of};
+ghost use Rattle.sysex.specs.Private.{behind, opcode_byte, identity_in, form_in, target_in, channel_test, length_test, program_test, version_test, halves_test};
 
-use crate::{Check, Order, Settings, bytes};
+use crate::{Check, Order, Settings};
+use halves::HALF;
 use kinds::Kind;
-use programs::PROGRAMS;
+use programs::{PROGRAMS, Target};
 
-// The opcodes, and the types (`typed` in code: `type` is a word of the language).
+// The bytes of the opcodes, and of the types (`typed` in code: `type` is a word of the language).
 const REQUEST: u8 = 0;
 
 pub const DUMP: u8 = 1;
 
-pub const PROGRAM: u8 = 0;
+const PROGRAM: u8 = 0;
 
-pub const EDIT: u8 = 1;
+const EDIT: u8 = 1;
 
-pub const ALL: u8 = 2;
+const ALL: u8 = 2;
 
 pub const VERSION: u8 = 0;
 
-// The highest program, and the highest half byte.
+// The highest program.
 const LAST: u8 = PROGRAMS as u8 - 1;
 
-const HALF: u8 = 0x0F;
+#[derive(Clone, Copy, Debug, PartialEq, Eq)]
+enum Opcode {
+    Request,
+    Dump,
+}
 
-// What a body asks for.
-pub fn judge(body: &[u8], kind: Kind, settings: Settings) -> Order
+impl TryFrom<u8> for Opcode {
+    ghost use Rattle.std.specs.Prelude.{◌≡◌};
+    ghost use Rattle.sysex.specs.Private.{opcode_in};
+
+    type Error = Check;
+
+    ghost try_from_gives = { λ byte opcode. opcode ≡ opcode_in byte };
+
+    fn try_from(byte: u8) -> Result<Opcode, Check> {
+        match byte {
+            REQUEST => Ok(Opcode::Request),
+            DUMP => Ok(Opcode::Dump),
+            _ => Err(Check::OpcodeAndType),
+        }
+    }
+}
+
+// What a body asks for, or the first check that fails.
+pub fn judge(body: &[u8], kind: Kind, settings: Settings) -> Result<Order, Check>
     ensures { result ≡ judge_of kind settings body.now }
 {
-    if is_identity(body) {
-        return identified(settings, bytes::byte_at(body, 2));
+    if let Some(cc) = identity_in(body) {
+        channel_judged(settings, cc)?;
+        return Ok(Order::Identify(cc));
     }
-    let header = kinds::header(kind);
-    if bytes::starts(&header, body) {
-        return form_judged(body, kind);
+    if body.starts_with(&kind.header()) {
+        form_judged(body, kind)
+    } else {
+        Err(Check::Ours(kind.device()))
     }
-    Order::Refused(Check::Ours(kinds::device(kind)))
 }
 
-fn is_identity(body: &[u8]) -> bool
-    ensures { result ≡ is_identity body.now }
+// The cc of a body that is an identity request.
+fn identity_in(body: &[u8]) -> Option<u8>
+    ensures { result ≡ identity_in body.now }
 {
-    if body.len() != 5 {
-        return false;
+    match body {
+        [0xF0, 0x7E, cc, 0x06, 0x01] if *cc <= 0x7F => Some(*cc),
+        _ => None,
     }
-    let cc = body[2];
-    if 0x7F < cc {
-        return false;
-    }
-    bytes::starts(&[0xF0, 0x7E, cc, 0x06, 0x01], body)
 }
 
-fn identified(settings: Settings, cc: u8) -> Order
-    ensures { result ≡ judged_by (identity_tests settings cc) (Order.Identify cc) }
+fn channel_judged(settings: Settings, cc: u8) -> Result<(), Check>
+    ensures { result ≡ behind (channel_test settings cc) tt }
 {
-    if is_our_channel(settings, cc) {
-        return Order::Identify(cc);
+    if cc == 0x7F || settings.hears(cc) {
+        Ok(())
+    } else {
+        Err(Check::Channel(settings.channel))
     }
-    Order::Refused(Check::Channel(settings.channel))
-}
-
-fn is_our_channel(settings: Settings, cc: u8) -> bool
-    ensures { result ≡ is_our_channel settings cc }
-{
-    if cc == settings.channel {
-        return true;
-    }
-    if cc == 0x7F {
-        return true;
-    }
-    settings.omni == 1
 }
 
 // A body that begins with the header.
-fn form_judged(body: &[u8], kind: Kind) -> Order
+fn form_judged(body: &[u8], kind: Kind) -> Result<Order, Check>
     ensures { result ≡ judged_by (form_tests kind body.now) (form_order body.now) }
 {
-    if body.len() < 7 {
-        return Order::Refused(Check::OpcodeAndType);
+    let (opcode, target) = form_in(body)?;
+    length_judged(body.len(), kind, opcode, target)?;
+    program_judged(target)?;
+    match opcode {
+        Opcode::Request => Ok(Order::Send(target)),
+        Opcode::Dump => {
+            version_judged(body, target)?;
+            data_judged(body, target)?;
+            Ok(Order::Store(target))
+        }
     }
-    let opcode = bytes::byte_at(body, 5);
-    if DUMP < opcode {
-        return Order::Refused(Check::OpcodeAndType);
-    }
-    let typed = bytes::byte_at(body, 6);
-    if ALL < typed {
-        return Order::Refused(Check::OpcodeAndType);
-    }
-    let length = body_length(kind, true, opcode, typed);
-    let shortest = shortest_length(kind, opcode, typed);
-    if is_either(body.len(), length, shortest) {
-        return fields_judged(body, kind, opcode, typed);
-    }
-    Order::Refused(Check::Length(length as u16 + 1, shortest as u16 + 1))
 }
 
-fn is_either(count: usize, length: usize, other: usize) -> bool
-    ensures { result ≡ (eqb count length || eqb count other) }
+// The opcode, and what is named. A body that ends before its program is too short: its length is asked for first.
+fn form_in(body: &[u8]) -> Result<(Opcode, Target), Check>
+    ensures { result ≡ form_in body.now }
 {
-    if count == length {
-        return true;
+    match body {
+        [_, _, _, _, _, opcode, typed, rest @ ..] => {
+            let opcode = Opcode::try_from(*opcode)?;
+            let target = target_in(*typed, rest.first().copied().unwrap_or(0))?;
+            Ok((opcode, target))
+        }
+        _ => Err(Check::OpcodeAndType),
     }
-    count == other
 }
 
-// The length of the shortest body of this opcode and type.
-fn shortest_length(kind: Kind, opcode: u8, typed: u8) -> usize
-    ensures { (result ≡ body_length kind (shortest kind) opcode typed) × (result ≤ 9 + 2 * (program_count * 255)) }
+fn target_in(typed: u8, program: u8) -> Result<Target, Check>
+    ensures { result ≡ target_in typed program }
 {
-    if kinds::has_spare(kind) {
-        return body_length(kind, false, opcode, typed);
+    match typed {
+        PROGRAM => Ok(Target::One(program)),
+        EDIT => Ok(Target::Edit),
+        ALL => Ok(Target::All),
+        _ => Err(Check::OpcodeAndType),
     }
-    body_length(kind, true, opcode, typed)
+}
+
+// The type of what is named.
+pub fn type_for(target: Target) -> u8
+    ensures { result ≡ type_for target }
+{
+    match target {
+        Target::One(_) => PROGRAM,
+        Target::Edit => EDIT,
+        Target::All => ALL,
+    }
+}
+
+fn length_judged(count: usize, kind: Kind, opcode: Opcode, target: Target) -> Result<(), Check>
+    ensures { result ≡ behind (length_test kind (opcode_byte opcode) (type_for target) count) tt }
+{
+    let long = body_length(kind, true, opcode, target);
+    let shortest = body_length(kind, !kind.has_spare(), opcode, target);
+    if count == long || count == shortest {
+        Ok(())
+    } else {
+        Err(Check::Length(long as u16 + 1, shortest as u16 + 1))
+    }
 }
 
 // The length of a body of this opcode and type, of a dump that is long or short.
-fn body_length(kind: Kind, long: bool, opcode: u8, typed: u8) -> usize
-    ensures { (result ≡ body_length kind long opcode typed) × (result ≤ 9 + 2 * (program_count * 255)) }
+fn body_length(kind: Kind, long: bool, opcode: Opcode, target: Target) -> usize
+    ensures { result ≡ body_length kind long (opcode_byte opcode) (type_for target) }
 {
-    let version = version_place(typed);
-    if opcode == REQUEST {
-        return version;
+    let version = version_place(type_for(target));
+    match opcode {
+        Opcode::Request => version,
+        Opcode::Dump => version + 1 + 2 * sent_count(kind, long, target),
     }
-    version + 1 + data_count(kind, long, typed)
 }
 
 // The whole length of the longest message: a long all programs dump.
 pub fn longest(kind: Kind) -> usize
     ensures { result ≡ longest kind }
 {
-    version_place(ALL) + 1 + data_count(kind, true, ALL) + 1
+    body_length(kind, true, Opcode::Dump, Target::All) + 1
 }
 
-// How many half bytes a dump has.
-fn data_count(kind: Kind, long: bool, typed: u8) -> usize
-    ensures { (result ≡ data_count kind long typed) × (result ≤ 2 * (program_count * 255)) }
+// How many bytes a dump has: of each program all, or all but the spare one.
+fn sent_count(kind: Kind, long: bool, target: Target) -> usize
+    ensures { result ≡ sent_for kind long target }
 {
-    let size = sent_size(kind, long);
-    if typed == ALL {
-        2 * (PROGRAMS * size)
+    let size = kind.size() as usize;
+    let sent = if long { size } else { size - 1 };
+    target.slots() * sent
+}
+
+fn program_judged(target: Target) -> Result<(), Check>
+    ensures { result ≡ behind (program_test target) tt }
+{
+    match target {
+        Target::One(program) if LAST < program => Err(Check::Program(LAST)),
+        _ => Ok(()),
+    }
+}
+
+fn version_judged(body: &[u8], target: Target) -> Result<(), Check>
+    requires { version_place (type_for target) < length body.now }
+    ensures { result ≡ behind (version_test (type_for target) body.now) tt }
+{
+    if body[version_place(type_for(target))] == VERSION {
+        Ok(())
     } else {
-        2 * size
+        Err(Check::Version(VERSION))
     }
 }
 
-// How many bytes of a program a dump has: all, or all but the spare one.
-fn sent_size(kind: Kind, long: bool) -> usize
-    ensures { (result ≡ sent_size kind long) × (result ≤ 255) }
+fn data_judged(body: &[u8], target: Target) -> Result<(), Check>
+    requires { version_place (type_for target) < length body.now }
+    ensures { result ≡ behind (halves_test (type_for target) body.now) tt }
 {
-    let size = kinds::size(kind) as usize;
-    if long {
-        return size;
-    }
-    size - 1
-}
-
-fn fields_judged(body: &[u8], kind: Kind, opcode: u8, typed: u8) -> Order
-    requires { body_length kind false opcode typed ≤ length body.now }
-    ensures { result ≡ judged_by (field_tests opcode typed body.now) (order_of opcode typed (program_of body.now)) }
-{
-    let number = bytes::byte_at(body, 7);
-    if has_program(typed, number) {
-        let asked = order(opcode, typed, number);
-        if opcode == REQUEST {
-            return asked;
-        }
-        return data_judged(body, typed, asked);
-    }
-    Order::Refused(Check::Program(LAST))
-}
-
-fn has_program(typed: u8, number: u8) -> bool
-    ensures { result ≡ has_program typed number }
-{
-    if typed == PROGRAM {
-        return number <= LAST;
-    }
-    true
-}
-
-// A dump's version and data, in front of what it asks for.
-fn data_judged(body: &[u8], typed: u8, asked: Order) -> Order
-    requires { data_place typed ≤ length body.now }
-    ensures { result ≡ judged_by (data_tests typed body.now) asked }
-{
-    let version = version_place(typed);
-    if bytes::byte_at(body, version) != VERSION {
-        return Order::Refused(Check::Version(VERSION));
-    }
-    let place = version + 1;
+    let place = version_place(type_for(target)) + 1;
     if halves::all_at_most(&body[place..], HALF) {
-        return asked;
+        Ok(())
+    } else {
+        Err(Check::HalfBytes(HALF))
     }
-    Order::Refused(Check::HalfBytes(HALF))
 }
 
 // Where the version of a dump stands, one place before its data.
+// It takes a byte, and not a `Target`: `version_place` is promised of every type.
 pub fn version_place(typed: u8) -> usize
     ensures { result ≡ version_place typed }
 {
     if typed == PROGRAM { 8 } else { 7 }
-}
-
-fn order(opcode: u8, typed: u8, number: u8) -> Order
-    ensures { result ≡ order_of opcode typed number }
-{
-    if opcode == REQUEST {
-        if typed == PROGRAM {
-            return Order::SendProgram(number);
-        }
-        if typed == EDIT {
-            return Order::SendEdit;
-        }
-        return Order::SendAll;
-    }
-    if typed == PROGRAM {
-        return Order::StoreProgram(number);
-    }
-    if typed == EDIT {
-        return Order::StoreEdit;
-    }
-    Order::StoreAll
 }

@@ -1,40 +1,51 @@
 // Answers, orders and checks as document 01's numbers.
 ghost use Rattle.std.specs.Prelude.{◌≡◌};
-ghost use Rattle.sysex.specs.Numbers.{refused, answer_number, answer_length, check_number, order_number};
+ghost use Rattle.sysex.specs.Numbers.{answer_number, answer_length, check_number, order_number};
 
-use crate::{Answer, Check, Order, Refusal};
+use crate::{Answer, Answered, Check, Order};
+use ground::Refusal;
 
-// The refusal of this number: every one that the box answers is made here.
-pub fn refused(number: u8) -> Answer
-    ensures { result ≡ refused number }
-{
-    Answer::Refused(Refusal { number })
-}
-
-pub fn answer_number(answer: Answer) -> u8
+pub fn answer_number(answer: Answered) -> u8
     ensures { result ≡ answer_number answer }
 {
     match answer {
-        Answer::Taken => 0,
-        Answer::Stored => 1,
-        Answer::Sent(_) => 2,
-        Answer::Applied => 3,
-        Answer::Cut => 4,
-        Answer::Refused(refusal) => refusal.number,
+        Ok(Answer::Taken) => 0,
+        Ok(Answer::Stored) => 1,
+        Ok(Answer::Sent(_)) => 2,
+        Ok(Answer::Applied) => 3,
+        Ok(Answer::Cut) => 4,
+        Err(refusal) => u8::from(refusal),
     }
 }
 
 // The reply's length.
-pub fn answer_length(answer: Answer) -> u16
+pub fn answer_length(answer: Answered) -> u16
     ensures { result ≡ answer_length answer }
 {
     match answer {
-        Answer::Taken => 0,
-        Answer::Stored => 0,
-        Answer::Sent(length) => length,
-        Answer::Applied => 0,
-        Answer::Cut => 0,
-        Answer::Refused(_) => 0,
+        Ok(Answer::Sent(length)) => length,
+        _ => 0,
+    }
+}
+
+impl From<Check> for Refusal {
+    ghost use Rattle.std.specs.Prelude.{◌≡◌};
+    ghost use Rattle.sysex.specs.Numbers.{refusal_for};
+
+    ghost from_gives = { λ check refusal. refusal ≡ refusal_for check };
+
+    // Why a message that fails a check is refused.
+    fn from(check: Check) -> Refusal {
+        match check {
+            Check::TooLong(_) => Refusal::TooLong,
+            Check::Ours(_) => Refusal::NotOurs,
+            Check::OpcodeAndType => Refusal::OpcodeOrType,
+            Check::Length(_, _) => Refusal::WrongLength,
+            Check::Program(_) => Refusal::NoProgram,
+            Check::Version(_) => Refusal::WrongVersion,
+            Check::HalfBytes(_) => Refusal::NoHalfByte,
+            Check::Channel(_) => Refusal::OtherIdentity,
+        }
     }
 }
 
@@ -42,30 +53,17 @@ pub fn answer_length(answer: Answer) -> u16
 pub fn check_number(check: Check) -> u8
     ensures { result ≡ check_number check }
 {
-    match check {
-        Check::TooLong(_) => 10,
-        Check::Ours(_) => 11,
-        Check::OpcodeAndType => 12,
-        Check::Length(_, _) => 13,
-        Check::Program(_) => 14,
-        Check::Version(_) => 15,
-        Check::HalfBytes(_) => 16,
-        Check::Channel(_) => 22,
-    }
+    u8::from(Refusal::from(check))
 }
 
-// The number of a message with this order.
-pub fn order_number(order: Order) -> u8
-    ensures { result ≡ order_number order }
+// The number of a message with this order, or that fails a check.
+pub fn order_number(judged: Result<Order, Check>) -> u8
+    ensures { result ≡ order_number judged }
 {
-    match order {
-        Order::Identify(_) => 2,
-        Order::SendProgram(_) => 2,
-        Order::SendEdit => 2,
-        Order::SendAll => 2,
-        Order::StoreProgram(_) => 1,
-        Order::StoreEdit => 1,
-        Order::StoreAll => 1,
-        Order::Refused(check) => check_number(check),
+    match judged {
+        Ok(Order::Identify(_)) => 2,
+        Ok(Order::Send(_)) => 2,
+        Ok(Order::Store(_)) => 1,
+        Err(check) => check_number(check),
     }
 }

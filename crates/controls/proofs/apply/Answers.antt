@@ -1,20 +1,14 @@
--- The row is that of the table, and the answer that of its number.
-use Rattle.controls.proofs.Packed.{found_row, found_sane}
+-- The row is that of the table.
+use Rattle.std.proofs.lemmas.Result.{err_from_is_err_and}
 use Rattle.controls.specs.Applying.{apply_of}
-use borrow.Author.Tests.{eq-eqb, ne_eqb}
+use Rattle.controls.proofs.Found.{apply_unlent}
 use Rattle.controls.proofs.apply.Goals as goal
 
-pub apply_row-number-requires : goal.apply_row-number-requires
-apply_row-number-requires c = found_sane _ _ _ _ _ c.packed_row.ensures c.unpacked-found.ensures
-
-pub returns-then-number-eq3 : goal.returns-then-number-eq3
-unfolding apply_of
-returns-then-number-eq3 c =
-    rw (← found_row _ _ _ _ _ c.packed_row.ensures c.unpacked-found.ensures)
-    (rw (eq-eqb _ _ c.if-number-eq3.true) at c.apply_row-number.ensures)
+pub returns-in_err-lent : goal.returns-in_err-lent
+returns-in_err-lent c =
+    let failed = err_from_is_err_and c.from_residual.result c.from_residual.ensures.1 in
+    rw (failed.1, failed.2) (apply_unlent c.args.kind c.args.controller _ c.args.value c.args.edit.now c.in_err-lent.ensures)
 
 pub returns : goal.returns
 unfolding apply_of
-returns c =
-    rw (← found_row _ _ _ _ _ c.packed_row.ensures c.unpacked-found.ensures)
-    (rw (ne_eqb _ _ c.if-number-eq3.false) at c.apply_row-number.ensures)
+returns c = rw (← c.in_ok-lent.ensures.2, ← c.in_ok-lent.ensures.1) c.apply.ensures

@@ -1,16 +1,13 @@
--- Every half byte before `place` is good, and `place` is half byte `half` of `program`.
-use Prim.Native.Nat.{◌≤◌, ◌-◌, ◌+◌, ◌*◌}
+-- Every half byte before half byte `half` of `program` is good.
+use Prim.Native.Nat.{◌≤◌, ◌+◌, ◌*◌}
 use mathlib.Core.Bool.{true}
 use mathlib.Core.Path.{◌≡◌}
-use lib.ListN.{take}
+use lib.ListN.{length, take}
 use Rattle.halves.specs.HalfBytes.{all_halves}
 use Rattle.places.proofs.searched.Given as goal
 
 abbrev pub invariant-loop-half : goal.invariant-loop-half
-invariant-loop-half l = (l.half ≤ l.per) × (l.place ≡ l.program * l.per + l.half) × (all_halves (take l.place l.halves) ≡ true)
+invariant-loop-half l = (l.program * l.per + l.half ≤ length l.halves) × (all_halves (take (l.program * l.per + l.half) l.halves) ≡ true)
 
-abbrev pub invariant-programs : goal.invariant-programs
-invariant-programs l = (l.program ≤ l.programs) × (l.place ≡ l.program * l.per) × (all_halves (take l.place l.halves) ≡ true)
-
-abbrev pub decreases-programs : goal.decreases-programs
-decreases-programs l = l.programs - l.program
+abbrev pub invariant-loop-program : goal.invariant-loop-program
+invariant-loop-program l = (l.program * l.per ≤ length l.halves) × (all_halves (take (l.program * l.per) l.halves) ≡ true)

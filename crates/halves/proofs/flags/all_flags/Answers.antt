@@ -1,23 +1,16 @@
-use mathlib.Core.Path.{refl, sym, ◌∙◌}
-use native.Mathlib.Omega.{arith}
-use Rattle.halves.proofs.Clear.{eight_more, eight_less, last-eight}
+-- All eights and the last are the whole list.
+use mathlib.Core.Path.{◌∙◌}
+use Rattle.halves.proofs.Clear.{eights_last}
 use Rattle.halves.proofs.flags.all_flags.Goals as goal
 
-pub returns-then-list-lt8 : goal.returns-then-list-lt8
-returns-then-list-lt8 c = c.all_at_most.ensures
+pub returns-then-each_are_flags : goal.returns-then-each_are_flags
+returns-then-each_are_flags c =
+    let last = c.in-Some.ensures.cases in
+    let whole = eights_last _ c.in-Some.last.now last.0 last.1.same in
+    c.are_flags.ensures ∙ (rw (← c.as_chunks.ensures.front, ← c.each_are_flags.ensures, c.if-each_are_flags.true) at whole)
 
-pub loop-i-init : goal.loop-i-init
-loop-i-init c = refl
-
-pub loop-i-preserved : goal.loop-i-preserved
-loop-i-preserved c =
-    let l = c.loop-i in
-    eight_more c.args.list.now l.i l.invariant (sym c.eight.ensures ∙ c.if-eight.true)
-
-pub returns-else-eight : goal.returns-else-eight
-returns-else-eight c =
-    let l = c.loop-i in
-    eight_less c.args.list.now l.i l.invariant (sym c.eight.ensures ∙ c.if-eight.false)
-
-pub returns : goal.returns
-returns c = let l = c.loop-i in c.eight-2.ensures ∙ last-eight _ l.i _ (omega arith) c.loop-i-test.false l.invariant
+pub returns-else-each_are_flags : goal.returns-else-each_are_flags
+returns-else-each_are_flags c =
+    let last = c.in-Some.ensures.cases in
+    let whole = eights_last _ c.in-Some.last.now last.0 last.1.same in
+    c.if-each_are_flags.false ∙ (rw (← c.as_chunks.ensures.front, ← c.each_are_flags.ensures, c.if-each_are_flags.false) at whole)
