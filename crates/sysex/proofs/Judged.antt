@@ -4,21 +4,16 @@ use mathlib.Core.Bool.{true, false, ◌&&◌}
 use mathlib.Core.List.{List}
 use mathlib.Core.Logic.{◌⊎◌, inl, inr, ⊎_elim}
 use mathlib.Core.Path.{◌≡◌}
-use native.Mathlib.Omega.{arith}
 use lib.Dec.{eqb, leb}
 use lib.ListN.{length, get_or, drop}
 use borrow.Author.Tests.{eqb-true, leb-true}
 use Rattle.ground.specs.Tests.{AllHold}
-use Rattle.ground.proofs.Tests.{both, one_of, by}
+use Rattle.ground.proofs.Tests.{both, one_of}
 use Rattle.halves.specs.HalfBytes.{all_halves}
 use Rattle.kinds.specs.declared.Kind.{Kind}
 use Rattle.kinds.specs.Kinds.{header_of}
-use Rattle.sysex.specs.Forms.{begins, opcode_of, type_of, program_of, request, dump, program, all, version, version_place, data_place, body_length, shortest}
+use Rattle.sysex.specs.Forms.{begins, opcode_of, type_of, program_of, request, dump, all, version, version_place, data_place, body_length, shortest}
 use Rattle.sysex.specs.Judging.{has_program, data_tests, form_tests}
-
--- the version stands among the first bytes
-pub version_low : (type place : ℕ) → place ≡ version_place type → place ≤ 8
-version_low type place e = rw e (by (λ (n : ℕ). n ≤ 8) (eqb type program) 8 7 (λ _. omega arith) (λ _. omega arith))
 
 -- a body that begins with the header and passes every test
 pub record Right (kind : Kind) (body : List ℕ) : Type 0 where

@@ -3,12 +3,10 @@ use Rattle.std.proofs.Common.{◌∙◌}
 use Rattle.controls.proofs.Columns.{scaled_in}
 use Rattle.sheet.proofs.in_column.Goals as goal
 
-pub returns-in-Value : goal.returns-in-Value
-returns-in-Value c =
-    let is_number = c.in-Value.ensures ∙ scaled_in _ _ c.requires.column_bound c.requires.value_bound in
-    cc
+pub unwrap-requires : goal.unwrap-requires
+unwrap-requires c = rw (c.scale.ensures, c.controller_of.ensures, scaled_in c.args.column c.args.value c.requires)
 
-pub returns-in-Refused : goal.returns-in-Refused
-returns-in-Refused c =
-    let is_number = c.in-Refused.ensures ∙ scaled_in _ _ c.requires.column_bound c.requires.value_bound in
+pub returns : goal.returns
+returns c =
+    let number = (rw c.controller_of.ensures at c.scale.ensures) ∙ scaled_in c.args.column c.args.value c.requires in
     cc
