@@ -1,6 +1,5 @@
 pub mod Frames
 pub mod Orders
 pub mod Taking
-pub mod Copying
 pub mod OwnChannel
 pub mod OneResult

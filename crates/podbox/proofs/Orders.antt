@@ -3,11 +3,13 @@ use Prim.Native.Nat.{ℕ, ◌<◌}
 use mathlib.Core.Bool.{Bool, true, false, cond, not, ◌&&◌}
 use mathlib.Core.List.{List, ◌∷◌}
 use mathlib.Core.Path.{◌≡◌, refl, ap, ◌∙◌}
+use Rattle.std.specs.Prelude.{Result, Err}
 use lib.Dec.{leb, ltb}
 use native.Mathlib.Omega.{arith}
 use lib.ListN.{length, take, length-take}
 use lib.Seq.{take_all}
 use borrow.Author.Tests.{leb-true, leb-false, le-ltb, lt-ltb}
+use Rattle.ground.specs.declared.Refusal.TheVariants as refusal
 use Rattle.ground.specs.Tests.{test}
 use Rattle.kinds.specs.declared.Kind.{Kind}
 use Rattle.kinds.specs.Kinds.{device_of}
@@ -16,7 +18,7 @@ use Rattle.programs.specs.Held.{Held}
 use Rattle.sockets.specs.Framer.{SysEx}
 use Rattle.sysex.specs.declared.Settings.{Settings}
 use Rattle.sysex.specs.declared.Order.{Order}
-use Rattle.sysex.specs.declared.Order.TheVariants.{Refused}
+use Rattle.sysex.specs.declared.Check.{Check}
 use Rattle.sysex.specs.declared.Check.TheVariants.{TooLong, Ours}
 use Rattle.sysex.specs.Forms.{longest}
 use Rattle.sysex.specs.Judging.{judged_by, has_form, further_tests, body_order, judge_of}
@@ -35,27 +37,27 @@ not_over m n = go (leb m n) refl
 
 module _ (kind : Kind) (settings : Settings) (message : List ℕ) where
   pub message_order_lem : message_order kind settings message
-      ≡ cond (ltb (longest kind) (length message)) (Refused (TooLong (longest kind))) (cond (is_framed message) (judge_of kind settings (body_of message)) (Refused (Ours (device_of kind))))
+      ≡ cond (ltb (longest kind) (length message)) (Err (TooLong (longest kind))) (cond (is_framed message) (judge_of kind settings (body_of message)) (Err (Ours (device_of kind))))
   unfolding message_order judge_of
   message_order_lem = rw (not_over (length message) (longest kind)) (steps (ltb (longest kind) (length message)) (is_framed message))
     where
       steps : (over framed : Bool)
           → judged_by (test (TooLong (longest kind)) (not over) ∷ test (Ours (device_of kind)) (framed && has_form kind (body_of message)) ∷ further_tests kind settings (body_of message)) (body_order (body_of message))
-          ≡ cond over (Refused (TooLong (longest kind))) (cond framed (judge_of kind settings (body_of message)) (Refused (Ours (device_of kind))))
+          ≡ cond over (Err (TooLong (longest kind))) (cond framed (judge_of kind settings (body_of message)) (Err (Ours (device_of kind))))
       steps true framed = refl
       steps false true = refl
       steps false false = refl
 
   pub handed_does_lem : (player : Player) (held : Held) → handed_does kind settings player message held
-      ≡ cond (ltb (longest kind) (length message)) (refusing held 10)
-      (cond (is_framed message) (message_does kind settings player held (SysEx (body_of message))) (refusing held 11))
+      ≡ cond (ltb (longest kind) (length message)) (refusing held refusal.TooLong)
+      (cond (is_framed message) (message_does kind settings player held (SysEx (body_of message))) (refusing held refusal.NotOurs))
   unfolding message_does order_does
   handed_does_lem player held =
-      ap (λ (o : Order). order_does kind settings player o (body_of message) held) message_order_lem ∙ steps (ltb (longest kind) (length message)) (is_framed message)
+      ap (λ (o : Result Order Check). order_does kind settings player o (body_of message) held) message_order_lem ∙ steps (ltb (longest kind) (length message)) (is_framed message)
     where
       steps : (over framed : Bool)
-          → order_does kind settings player (cond over (Refused (TooLong (longest kind))) (cond framed (judge_of kind settings (body_of message)) (Refused (Ours (device_of kind))))) (body_of message) held
-          ≡ cond over (refusing held 10) (cond framed (message_does kind settings player held (SysEx (body_of message))) (refusing held 11))
+          → order_does kind settings player (cond over (Err (TooLong (longest kind))) (cond framed (judge_of kind settings (body_of message)) (Err (Ours (device_of kind))))) (body_of message) held
+          ≡ cond over (refusing held refusal.TooLong) (cond framed (message_does kind settings player held (SysEx (body_of message))) (refusing held refusal.NotOurs))
       steps true framed = refl
       steps false true = refl
       steps false false = refl

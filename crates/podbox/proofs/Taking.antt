@@ -1,31 +1,37 @@
--- A step of a sound receiver stays within the receive buffer, a socket is its player's, a program change names a program, and a move's number is its answer.
+-- A step of a sound receiver stays within the receive buffer, a socket is its player's, and a program change names a program.
 use Prim.Native.Nat.{ℕ, zero, suc, ◌/◌, ◌≤◌, ◌<◌}
 use mathlib.Core.Bool.{true, ◌&&◌}
-use mathlib.Core.List.{List}
+use mathlib.Core.List.{List, [], ◌∷◌}
 use mathlib.Core.Path.{◌≡◌, refl}
 use native.Mathlib.Omega.{arith}
 use Rattle.kinds.specs.declared.Kind.{Kind}
-use Rattle.kinds.specs.Kinds.{takes_program_change}
+use Rattle.kinds.specs.Kinds.{takes_program_change, kind_from, kind_of, kind_test}
 use Rattle.kinds.proofs.AnyKind.{size-bounds}
-use Rattle.programs.specs.Memory.{program_count, player_of, memory_size, mark_count}
+use Rattle.programs.specs.declared.Player.{Player}
+use Rattle.programs.specs.declared.Player.TheVariants.{One, Two}
+use Rattle.programs.specs.Memory.{program_count, player_of, player_from, player_test, memory_size, mark_count}
 use lib.Dec.{eqb, leb}
+use lib.ListN.{length}
 use borrow.Author.Tests.{leb-true, le-leb, ne_eqb}
+use Rattle.std.specs.Prelude.{Result, Ok, Err}
+use Rattle.ground.specs.Tests.{Test, tested, AllHold}
+use Rattle.ground.proofs.InOrder.{tested_cases}
 use Rattle.ground.proofs.Tests.{both}
+use Rattle.programs.specs.Held.{Held}
 use Rattle.framing.specs.declared.Receiver.{Receiver}
 use Rattle.framing.specs.declared.Event.{Event}
 use Rattle.framing.specs.declared.Event.TheVariants.{Nothing, Collect, Cut, CutAndOpen, TooLong, SysEx, Channel}
 use Rattle.framing.specs.Receiver.{sound_of}
 use Rattle.framing.specs.Bytes.{step_of}
 use Rattle.framing.proofs.Keeps.{collects_below, finishes_within}
-use Rattle.sockets.specs.Promise.{socket_of}
+use Rattle.sockets.specs.Box.{Lent}
+use Rattle.sockets.specs.Promise.{socket_of, step_does, byte_of}
+use Rattle.sysex.specs.declared.Settings.{Settings}
 use Rattle.sysex.specs.Forms.{longest}
 use Rattle.sysex.proofs.Lengths.{longest_bounds}
-use Rattle.controls.specs.Answers.{change_number}
-use Rattle.controls.specs.Applying.{apply_of}
-use Rattle.controls.proofs.Controllers.{apply_cases}
-use Rattle.podbox.specs.Messages.{is_program_change, change_answer}
-use Rattle.podbox.specs.Box.{limit, socket_player}
-use Rattle.podbox.specs.Private.{Within, number_answer, are_lent, largest_memory, largest_buffer, are_largest}
+use Rattle.podbox.specs.Messages.{is_program_change}
+use Rattle.podbox.specs.Box.{limit, socket_player, box_rules}
+use Rattle.podbox.specs.Private.{Within, socket_for, passes, length_tests, ready_does, largest_memory, largest_buffer, are_largest}
 
 at_event : (kind : Kind) (event : Event) → ((place : ℕ) → event ≡ Collect place → place < limit kind) → ((count : ℕ) → event ≡ SysEx count → count ≤ limit kind) → Within kind event
 at_event kind Nothing below within = tt
@@ -51,6 +57,17 @@ unfolding player_of
 sender zero = refl
 sender (suc n) = rw (ne_eqb (suc n) 0 (λ e. omega arith))
 
+-- behind the tests
+pub own_socket : (player : Player) → socket_player (socket_for player) ≡ player
+unfolding player_of
+own_socket One = refl
+own_socket Two = refl
+
+pub socket_same : (socket : ℕ) → socket_for (player_of socket) ≡ socket_of socket
+unfolding player_of
+socket_same zero = refl
+socket_same (suc n) = rw (ne_eqb (suc n) 0 (λ e. omega arith))
+
 pub change_numbered : (kind : Kind) (status number : ℕ) → is_program_change kind status number ≡ true → (1 ≤ number) × (number ≤ program_count)
 unfolding is_program_change
 change_numbered kind status number t =
@@ -61,24 +78,16 @@ change_numbered kind status number t =
     let r = both low high q.1 in
     (leb-true _ _ r.0, leb-true _ _ r.1)
 
--- a move's number says whether it was applied, and if not why not: no refusal has 1 or 3
-pub move-told : (kind : Kind) (controller value : ℕ) (edit : List ℕ)
-    → number_answer (change_number (apply_of kind controller value edit).answer) ≡ change_answer (apply_of kind controller value edit).answer
-move-told kind controller value edit =
-    apply_cases kind controller value edit (λ x. number_answer (change_number x.answer) ≡ change_answer x.answer)
-    (λ _. refl)
-    (λ number low high. rw (ne_eqb number 1 (λ e. omega arith), ne_eqb number 3 (λ e. omega arith)))
-    (λ _ _. refl)
-
-pub move_least : (kind : Kind) (controller value : ℕ) (edit : List ℕ) → 3 ≤ change_number (apply_of kind controller value edit).answer
-move_least kind controller value edit =
-    apply_cases kind controller value edit (λ x. 3 ≤ change_number x.answer) (λ _. omega arith) (λ number low high. omega arith) (λ _ _. omega arith)
+-- where nothing is refused, all tests hold
+pub all_held : {Name A : Type 0} (ts : List (Test Name)) (x y : A) → Ok y ≡ tested ts Err (Ok x) → AllHold ts × (y ≡ x)
+all_held {Name} {A} ts x y =
+    tested_cases (λ (r : Result A Name). Ok y ≡ r → AllHold ts × (y ≡ x)) ts Err (Ok x) (λ a e. (a, cc)) (λ name f e. cc)
 
 -- What the largest buffers hold, any kind's hold.
-pub largest-lent : (kind : Kind) (memory marks receive reply : ℕ) → are_largest memory receive reply ≡ true → mark_count ≤ marks
-    → true ≡ are_lent kind memory marks receive reply
-unfolding are_lent are_largest
-largest-lent kind memory marks receive reply t marked =
+pub largest_hold : (kind : Kind) (memory receive reply : ℕ) → are_largest memory receive reply ≡ true
+    → (memory_size kind ≤ memory) × (longest kind ≤ receive) × (longest kind ≤ reply)
+unfolding are_largest
+largest_hold kind memory receive reply t =
     let p = both (leb largest_memory memory) (leb largest_buffer receive && leb largest_buffer reply) t in
     let q = both (leb largest_buffer receive) (leb largest_buffer reply) p.1 in
     let size = (size-bounds kind).1 in
@@ -86,14 +95,17 @@ largest-lent kind memory marks receive reply t marked =
     let holds = leb-true largest_memory memory p.0 in
     let receives = leb-true largest_buffer receive q.0 in
     let replies = leb-true largest_buffer reply q.1 in
-    rw (le-leb (memory_size kind) memory (omega arith), le-leb mark_count marks marked, le-leb (longest kind) receive (omega arith), le-leb (longest kind) reply (omega arith))
+    (omega arith, omega arith, omega arith)
 
--- and what a call is lent that is lent enough
-pub lent_enough : (kind : Kind) (memory marks receive reply : ℕ) → are_lent kind memory marks receive reply ≡ true
-    → (memory_size kind ≤ memory) × (mark_count ≤ marks) × (longest kind ≤ receive) × (longest kind ≤ reply)
-unfolding are_lent
-lent_enough kind memory marks receive reply t =
-    let p = both (leb (memory_size kind) memory) _ t in
-    let q = both (leb mark_count marks) _ p.1 in
-    let r = both (leb (longest kind) receive) _ q.1 in
-    (leb-true _ _ p.0, leb-true _ _ q.0, leb-true _ _ r.0, leb-true _ _ r.1)
+-- A byte call that is lent enough, of a player.
+pub byte_ready : (kind_number : ℕ) (settings : Settings) (socket byte : ℕ) (entry : Lent Held) (kind : Kind) (player : Player)
+    → Ok kind ≡ kind_from kind_number
+    → Ok tt ≡ passes (length_tests kind (length entry.held.memory) (length entry.held.marks) (length entry.receive) (length entry.reply))
+    → Ok player ≡ player_from socket
+    → byte_of (box_rules kind_number settings) socket byte entry ≡ ready_does kind settings player byte entry
+unfolding kind_from player_from byte_of step_does ready_does
+byte_ready kind_number settings socket byte entry kind player k lent p =
+    let from = all_held (kind_test kind_number ∷ []) (kind_of kind_number) kind k in
+    let of = all_held (player_test socket ∷ []) (player_of socket) player p in
+    let long = (all_held (length_tests kind _ _ _ _) tt tt lent).0 in
+    rw (from.0.0, ← from.1, long.0, long.1.0, long.1.1.0, long.1.1.1.0, of.0.0, of.1, socket_same socket)

@@ -1,5 +1,7 @@
 -- A finished message, and what carrying it out does. It goes with its sender, a player.
-use Rattle.std.specs.Prelude.{ℕ, ◌-◌, ◌/◌, ◌%◌, Bool, true, cond, ◌&&◌, ◌||◌, List, [], ◌∷◌, eqb, leb}
+use Rattle.std.specs.Prelude.{ℕ, ◌-◌, ◌/◌, ◌%◌, Bool, true, cond, ◌&&◌, ◌||◌, List, [], ◌∷◌, eqb, leb, ⊤, Result, Ok, Err}
+use Rattle.ground.specs.declared.Refusal.{Refusal}
+use Rattle.ground.specs.declared.Refusal.TheVariants as refusal
 use Rattle.ground.specs.Tests.{Test, test, tested}
 use Rattle.ground.specs.Calls.{outcome}
 use Rattle.kinds.specs.declared.Kind.{Kind}
@@ -8,14 +10,11 @@ use Rattle.programs.specs.declared.Player.{Player}
 use Rattle.programs.specs.Memory.{program_count}
 use Rattle.programs.specs.declared.Target.TheVariants.{One, Edit}
 use Rattle.programs.specs.Held.{Held, bytes_in, put_in}
-use Rattle.controls.specs.declared.Change.{Change}
-use Rattle.controls.specs.declared.Change.TheVariants as change
 use Rattle.controls.specs.Applying.{apply_of}
 use Rattle.sockets.specs.Framer.{Message, SysEx, TooLong, Channel}
 use Rattle.sysex.specs.declared.Settings.{Settings}
-use Rattle.sysex.specs.declared.Answer.{Answer}
 use Rattle.sysex.specs.declared.Answer.TheVariants.{Stored, Applied}
-use Rattle.sysex.specs.Numbers.{refused}
+use Rattle.sysex.specs.Numbers.{Answered}
 use Rattle.carrying.specs.Carrying.{Outcome, refusing, body_does}
 
 -- 20 "channel message on another channel, not omni"
@@ -32,13 +31,14 @@ unfoldable pub is_program_change : Kind → ℕ → ℕ → Bool
 is_program_change kind status number = takes_program_change kind && (eqb (status / 16) 0xC && (leb 1 number && leb number program_count))
 
 -- "a finished channel message 20, 21, 17, 18, 19": the last three are the controller's
-abbrev pub channel_tests : Kind → Settings → ℕ → ℕ → List (Test ℕ)
+abbrev pub channel_tests : Kind → Settings → ℕ → ℕ → List (Test Refusal)
 channel_tests kind settings status first =
-    test 20 (is_heard settings status) ∷ test 21 (is_controller status || is_program_change kind status first) ∷ []
+    test refusal.OtherChannel (is_heard settings status) ∷ test refusal.OtherStatus (is_controller status || is_program_change kind status first) ∷ []
 
-abbrev pub change_answer : Change → Answer
-change_answer change.Applied = Applied
-change_answer (change.Refused number) = refused number
+-- 3 "controller applied", or why it is not
+abbrev pub change_answer : Result ⊤ Refusal → Answered
+change_answer (Ok done) = Ok Applied
+change_answer (Err r) = Err r
 
 -- a controller acts on "its bytes of the edit buffer", the sender's; "A controller leaves the mark as it was"
 abbrev pub controller_does : Kind → Player → ℕ → ℕ → Held → Outcome
@@ -48,7 +48,7 @@ controller_does kind player controller value held =
 
 -- a program change "copies program 0 to 35 into the edit buffer", the sender's, "and returns 1"
 abbrev pub program_change_does : Kind → Player → ℕ → Held → Outcome
-program_change_does kind player number held = outcome Stored (put_in kind player Edit (bytes_in kind player (One (number - 1)) held) held) []
+program_change_does kind player number held = outcome (Ok Stored) (put_in kind player Edit (bytes_in kind player (One (number - 1)) held) held) []
 
 unfoldable pub channel_does : Kind → Settings → Player → ℕ → ℕ → ℕ → Held → Outcome
 channel_does kind settings player status first second held =
@@ -57,5 +57,5 @@ channel_does kind settings player status first second held =
 
 unfoldable pub message_does : Kind → Settings → Player → Held → Message → Outcome
 message_does kind settings player held (SysEx body) = body_does kind settings player body held
-message_does kind settings player held TooLong = refusing held 10
+message_does kind settings player held TooLong = refusing held refusal.TooLong
 message_does kind settings player held (Channel status first second) = channel_does kind settings player status first second held

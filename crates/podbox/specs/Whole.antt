@@ -1,5 +1,5 @@
 -- "A whole message handed over at once": its checks, what it asks for, and why.
-use Rattle.std.specs.Prelude.{ℕ, ◌-◌, Bool, ◌&&◌, List, ◌∷◌, eqb, leb, length, get_or, take, drop}
+use Rattle.std.specs.Prelude.{ℕ, ◌-◌, Bool, ◌&&◌, List, ◌∷◌, eqb, leb, length, get_or, take, drop, Result}
 use Rattle.ground.specs.Lists.{all_at_most}
 use Rattle.ground.specs.Tests.{Test, test}
 use Rattle.kinds.specs.declared.Kind.{Kind}
@@ -34,12 +34,12 @@ message_tests kind settings message =
     ∷ further_tests kind settings (body_of message)
 
 -- what a message asks for, or the first check that fails; and what it does
-unfoldable pub message_order : Kind → Settings → List ℕ → Order
+unfoldable pub message_order : Kind → Settings → List ℕ → Result Order Check
 message_order kind settings message = judged_by (message_tests kind settings message) (body_order (body_of message))
 
 abbrev pub handed_does : Kind → Settings → Player → List ℕ → Held → Outcome
 handed_does kind settings player message held = order_does kind settings player (message_order kind settings message) (body_of message) held
 
 -- "Tell the customer why": what becomes of a message that a fresh box is handed
-abbrev pub reason_of : Kind → List ℕ → Order
+abbrev pub reason_of : Kind → List ℕ → Result Order Check
 reason_of kind message = message_order kind fresh_settings message

@@ -1,5 +1,5 @@
 // The box: a whole message from the panel, the reason for its number, a move of a list, and one byte on one socket.
-#![tactic(auto)]
+#![tactic(auto, unfolding(crate::specs::Settings::is_valid, crate::specs::Settings::are_marks, crate::specs::Messages::is_controller, crate::specs::Messages::is_program_change, crate::specs::Whole::is_framed, crate::specs::Private::are_largest, crate::specs::Private::body_in, crate::specs::Box::list_answer, crate::specs::Box::move_does, kinds::specs::Kinds::kind_from, programs::specs::Memory::player_from), using(ground::proofs::Tests::tests))]
 
 mod channel;
 mod moves;
@@ -8,20 +8,11 @@ mod settings;
 mod socket;
 mod why;
 
-use framing::Receiver;
 pub use moves::{list_answer, make_move};
 pub use panel::whole_message;
 pub use settings::{Buffer, FRESH_SETTINGS, LONGEST, MEMORY, Memory};
 pub use socket::take_byte;
-use sysex::Answer;
 pub use why::reason;
-
-// What a byte call gives back: the receiver for the next one, and the answer.
-#[derive(Clone, Copy)]
-pub struct Took {
-    pub receiver: Receiver,
-    pub answer: Answer,
-}
 
 // A move of a list: a controller, and a value for it.
 #[repr(C)]

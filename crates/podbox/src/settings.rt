@@ -1,9 +1,11 @@
 // The lengths that serve a box of any kind, the settings of a fresh one, and whether settings are in range.
-ghost use Rattle.std.specs.Prelude.{◌≡◌};
-ghost use Rattle.podbox.specs.Settings.{is_valid, are_marks};
-ghost use Rattle.podbox.specs.Private.{HoldsMarks};
-ghost use Rattle.podbox.specs.Box.{limit};
+ghost use Rattle.std.specs.Prelude.{◌≡◌, ◌≤◌, [], ◌∷◌, length};
+ghost use Rattle.programs.specs.Memory.{mark_count};
+ghost use Rattle.programs.specs.Held.{held_of};
+ghost use Rattle.podbox.specs.Box.{limit, settings_test, marked_test};
+ghost use Rattle.podbox.specs.Private.{passes};
 
+use ground::Refusal;
 use kinds::{Kind, LARGEST};
 use programs::{MARKS, PROGRAMS};
 use sysex::Settings;
@@ -28,37 +30,38 @@ pub const FRESH_SETTINGS: Settings = Settings {
 };
 
 // The most bytes of a SysEx that are stored: all but its F7.
+#[tactic(auto, using(sysex::proofs::Lengths::longest_bounds))]
 pub(crate) fn limit(kind: Kind) -> u16
     ensures { result ≡ limit kind }
 {
     (sysex::longest(kind) - 1) as u16
 }
 
-// The box's own marks, each of them 0 or 1.
-pub(crate) fn are_marks(marks: &[u8]) -> bool
-    requires { HoldsMarks marks.now }
-    ensures { result ≡ are_marks marks.now }
+// 32 for a setting out of its range.
+pub(crate) fn are_valid(settings: Settings) -> Result<(), Refusal>
+    ensures { result ≡ passes (settings_test settings ∷ []) }
 {
-    halves::all_flags(&marks[..MARKS])
+    if settings.channel <= 15
+        && settings.omni <= 1
+        && settings.revision0 <= 0x7F
+        && settings.revision1 <= 0x7F
+        && settings.revision2 <= 0x7F
+        && settings.revision3 <= 0x7F
+    {
+        Ok(())
+    } else {
+        Err(Refusal::Unsound)
+    }
 }
 
-pub(crate) fn are_valid(settings: Settings) -> bool
-    ensures { result ≡ is_valid settings }
+// 32 for one of the box's own marks that is neither 1 nor 0.
+pub(crate) fn are_marks(marks: &[u8]) -> Result<(), Refusal>
+    requires { mark_count ≤ length marks.now }
+    ensures { result ≡ passes (marked_test (held_of [] marks.now) ∷ []) }
 {
-    if 15 < settings.channel {
-        return false;
+    if halves::all_flags(&marks[..MARKS]) {
+        Ok(())
+    } else {
+        Err(Refusal::Unsound)
     }
-    if 1 < settings.omni {
-        return false;
-    }
-    if 0x7F < settings.revision0 {
-        return false;
-    }
-    if 0x7F < settings.revision1 {
-        return false;
-    }
-    if 0x7F < settings.revision2 {
-        return false;
-    }
-    settings.revision3 <= 0x7F
 }

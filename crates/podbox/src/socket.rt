@@ -1,22 +1,26 @@
 // One byte on one socket.
-ghost use Rattle.std.specs.Prelude.{◌≡◌, ◌&&◌};
+ghost use Rattle.std.specs.Prelude.{◌≡◌, ◌≤◌, length};
 ghost use Rattle.programs.specs.Held.{held_of};
-ghost use Rattle.framing.specs.Receiver.{sound_of};
+ghost use Rattle.programs.specs.Lending.{content, SameLent};
+ghost use Rattle.framing.specs.declared.Receiver.{Receiver};
+ghost use Rattle.framing.specs.Bytes.{step_to};
 ghost use Rattle.sockets.specs.Box.{took, lent};
-ghost use Rattle.sockets.specs.Promise.{socket_of, step_does, byte_of};
-ghost use Rattle.sysex.specs.Numbers.{refused};
-ghost use Rattle.podbox.specs.Settings.{is_valid, are_marks};
-ghost use Rattle.podbox.specs.Box.{take_of};
-ghost use Rattle.podbox.specs.Private.{HoldsMemory, HoldsMarks, HasRoom, Within, kind_rules, ready_does, are_lent, are_largest};
+ghost use Rattle.sockets.specs.Promise.{step_does};
+ghost use Rattle.sysex.specs.Forms.{longest};
+ghost use Rattle.podbox.specs.Box.{ready_tests, take_of};
+ghost use Rattle.podbox.specs.Private.{Within, socket_for, kind_rules, ready_does, passes, length_tests, are_largest};
 
-use crate::{Took, channel, settings};
-use framing::{Event, Receiver, Stepped};
+use crate::{channel, settings};
+use framing::{Event, Receiver};
+use ground::Refusal;
 use kinds::Kind;
-use programs::MARKS;
-use sysex::{Answer, Settings};
+use programs::{Held, MARKS, Player};
+use sysex::{Answer, Answered, Settings};
 
+// 32 for the kind, 30, 31 and 32, then the byte is taken: a call that is turned away leaves the receiver as it was.
+#[tactic(auto, unfolding(sockets::specs::Promise::byte_of, kinds::specs::Kinds::kind_from, programs::specs::Memory::player_from), using(ground::proofs::Tests::tests))]
 pub fn take_byte(
-    receiver: Receiver,
+    receiver: &mut Receiver,
     socket: u32,
     byte: u8,
     kind: u32,
@@ -25,185 +29,122 @@ pub fn take_byte(
     marks: &mut [u8],
     receive: &mut [u8],
     reply: &mut [u8],
-) -> Took
-    ensures { took result.receiver result.answer (held_of memory.new marks.new) receive.new reply.new ≡ take_of kind settings socket receiver byte (held_of memory.old marks.old) receive.old reply.old }
+) -> Answered
+    ensures { took receiver.new result (held_of memory.new marks.new) receive.new reply.new ≡ take_of kind settings socket receiver.old byte (held_of memory.old marks.old) receive.old reply.old }
 {
-    if kinds::is_kind(kind) {
-        let known = kinds::kind_of(kind);
-        return take_lent(
-            receiver, socket, byte, known, settings, memory, marks, receive, reply,
-        );
-    }
-    refused(receiver, 32)
+    let kind = Kind::try_from(kind)?;
+    are_lent(kind, memory.len(), marks.len(), receive.len(), reply.len())?;
+    let player = Player::try_from(socket)?;
+    let held = &mut Held {
+        kind,
+        memory,
+        marks,
+    };
+    take_ready(receiver, player, byte, settings, held, receive, reply)
 }
 
-// 30 and 31, then whether it is ready.
-fn take_lent(
-    receiver: Receiver,
-    socket: u32,
-    byte: u8,
+// 30 where a buffer is shorter than the kind asks for. A box that may be set as any kind lends the largest, and these are
+// asked for first: their lengths are constants.
+fn are_lent(
     kind: Kind,
-    settings: Settings,
-    memory: &mut [u8],
-    marks: &mut [u8],
-    receive: &mut [u8],
-    reply: &mut [u8],
-) -> Took
-    ensures { took result.receiver result.answer (held_of memory.new marks.new) receive.new reply.new ≡ byte_of (kind_rules kind settings) socket byte (lent receiver (held_of memory.old marks.old) receive.old reply.old) }
-{
-    if are_lent(memory.len(), marks.len(), receive.len(), reply.len(), kind) {
-        if programs::is_player(socket) {
-            return take_ready(
-                receiver, socket, byte, kind, settings, memory, marks, receive, reply,
-            );
-        }
-        return refused(receiver, 31);
-    }
-    refused(receiver, 30)
-}
-
-// Whether the buffers are as long as the kind asks for. A box that may be set as any kind lends the largest, and these
-// are asked for first: their lengths are constants.
-fn are_lent(memory: usize, marks: usize, receive: usize, reply: usize, kind: Kind) -> bool
-    ensures { result ≡ are_lent kind memory marks receive reply }
+    memory: usize,
+    marks: usize,
+    receive: usize,
+    reply: usize,
+) -> Result<(), Refusal>
+    ensures { result ≡ passes (length_tests kind memory marks receive reply) }
 {
     if marks < MARKS {
-        return false;
+        return Err(Refusal::TooShort);
     }
     if are_largest(memory, receive, reply) {
-        return true;
+        return Ok(());
     }
     if memory < programs::memory_size(kind) {
-        return false;
+        return Err(Refusal::TooShort);
     }
     let longest = sysex::longest(kind);
-    if receive < longest {
-        return false;
+    if receive < longest || reply < longest {
+        return Err(Refusal::TooShort);
     }
-    longest <= reply
+    Ok(())
 }
 
 fn are_largest(memory: usize, receive: usize, reply: usize) -> bool
     ensures { result ≡ are_largest memory receive reply }
 {
-    if memory < settings::MEMORY {
-        return false;
-    }
-    if receive < settings::LONGEST {
-        return false;
-    }
-    settings::LONGEST <= reply
-}
-
-fn refused(receiver: Receiver, number: u8) -> Took
-    ensures { (result.receiver ≡ receiver) × (result.answer ≡ refused number) }
-{
-    Took {
-        receiver,
-        answer: sysex::refused(number),
-    }
+    settings::MEMORY <= memory && settings::LONGEST <= receive && settings::LONGEST <= reply
 }
 
 // 32, then the byte is taken.
+#[tactic(auto, unfolding(crate::specs::Private::ready_does), using(ground::proofs::Tests::tests))]
 fn take_ready(
-    receiver: Receiver,
-    socket: u32,
+    receiver: &mut Receiver,
+    player: Player,
     byte: u8,
-    kind: Kind,
     settings: Settings,
-    memory: &mut [u8],
-    marks: &mut [u8],
+    held: &mut Held,
     receive: &mut [u8],
     reply: &mut [u8],
-) -> Took
-    requires { HoldsMemory kind memory.old × HoldsMarks marks.old × HasRoom kind receive.old × HasRoom kind reply.old }
-    ensures { took result.receiver result.answer (held_of memory.new marks.new) receive.new reply.new ≡ ready_does kind settings socket byte (lent receiver (held_of memory.old marks.old) receive.old reply.old) }
+) -> Answered
+    requires { (longest held.old.kind ≤ length receive.old) × (longest held.old.kind ≤ length reply.old) }
+    ensures same { SameLent held.old held.new }
+    ensures all_after { took receiver.new result (content held.new) receive.new reply.new ≡ ready_does held.old.kind settings player byte (lent receiver.old (content held.old) receive.old reply.old) }
 {
-    let limit = settings::limit(kind);
-    if is_ready(receiver, limit, settings, marks) {
-        let stepped = framing::step(receiver, byte, limit);
-        return act(
-            stepped, socket, byte, kind, settings, memory, marks, receive, reply,
-        );
-    }
-    refused(receiver, 32)
+    is_ready(*receiver, settings, held)?;
+    let stepped = framing::step(*receiver, byte, settings::limit(held.kind));
+    *receiver = stepped.receiver;
+    act(stepped.event, player, byte, settings, held, receive, reply)
 }
 
 // The receiver is asked last, just before its step: so the compiler asks once whether a SysEx is open.
-fn is_ready(receiver: Receiver, limit: u16, settings: Settings, marks: &[u8]) -> bool
-    requires { HoldsMarks marks.now }
-    ensures { result ≡ (sound_of limit receiver && (is_valid settings && are_marks marks.now)) }
+#[tactic(auto, using(ground::proofs::Tests::tests))]
+fn is_ready(receiver: Receiver, settings: Settings, held: &Held) -> Result<(), Refusal>
+    ensures { result ≡ passes (ready_tests held.now.kind settings receiver (content held.now)) }
 {
-    if settings::are_valid(settings) {
-        if settings::are_marks(marks) {
-            return framing::sound(receiver, limit);
-        }
-        return false;
+    settings::are_valid(settings)?;
+    settings::are_marks(held.marks)?;
+    if framing::sound(receiver, settings::limit(held.kind)) {
+        Ok(())
+    } else {
+        Err(Refusal::Unsound)
     }
-    false
 }
 
 // What the byte did, carried on to the buffers.
+#[tactic(auto, unfolding(sockets::specs::Promise::step_does, crate::specs::Messages::message_does), using(crate::proofs::Taking::own_socket))]
 fn act(
-    stepped: Stepped,
-    socket: u32,
+    event: Event,
+    player: Player,
     byte: u8,
-    kind: Kind,
     settings: Settings,
-    memory: &mut [u8],
-    marks: &mut [u8],
+    held: &mut Held,
     receive: &mut [u8],
     reply: &mut [u8],
-) -> Took
-    requires holds_memory { HoldsMemory kind memory.old × HoldsMarks marks.old × HasRoom kind receive.old × HasRoom kind reply.old }
-    requires within { Within kind stepped.event }
-    ensures { took result.receiver result.answer (held_of memory.new marks.new) receive.new reply.new ≡ step_does (kind_rules kind settings) (socket_of socket) byte (lent stepped.receiver (held_of memory.old marks.old) receive.old reply.old) stepped }
+) -> Answered
+    requires room { (longest held.old.kind ≤ length receive.old) × (longest held.old.kind ≤ length reply.old) }
+    requires within { Within held.old.kind event }
+    ensures same { SameLent held.old held.new }
+    ensures all_after { (next : Receiver) → took next result (content held.new) receive.new reply.new ≡ step_does (kind_rules held.old.kind settings) (socket_for player) byte (lent next (content held.old) receive.old reply.old) (step_to next event) }
 {
-    let receiver = stepped.receiver;
-    let event = stepped.event;
     match event {
-        Event::Nothing => Took {
-            receiver,
-            answer: Answer::Taken,
-        },
+        Event::Nothing => Ok(Answer::Taken),
         Event::Collect(place) => {
             receive[place as usize] = byte;
-            Took {
-                receiver,
-                answer: Answer::Taken,
-            }
+            Ok(Answer::Taken)
         }
-        Event::Cut => Took {
-            receiver,
-            answer: Answer::Cut,
-        },
+        Event::Cut => Ok(Answer::Cut),
         Event::CutAndOpen => {
             receive[0] = byte;
-            Took {
-                receiver,
-                answer: Answer::Cut,
-            }
+            Ok(Answer::Cut)
         }
-        Event::TooLong => refused(receiver, 10),
+        Event::TooLong => Err(Refusal::TooLong),
         Event::SysEx(count) => {
-            let answer = carrying::carry_out(
-                &receive[..count as usize],
-                programs::player_of(socket),
-                kind,
-                settings,
-                memory,
-                marks,
-                reply,
-            );
-            Took { receiver, answer }
+            let body = &receive[..count as usize];
+            carrying::carry(body, player, settings, held, reply)
         }
         Event::Channel(status, first, second) => {
-            let player = programs::player_of(socket);
-            let number = channel::channel(status, first, second, player, kind, settings, memory);
-            Took {
-                receiver,
-                answer: channel::number_answer(number),
-            }
+            channel::channel(status, first, second, player, settings, held)
         }
     }
 }

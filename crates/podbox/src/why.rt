@@ -7,16 +7,10 @@ use kinds::Kind;
 use sysex::{Check, Order};
 
 // What becomes of a message that a fresh box of this kind is handed.
-pub fn reason(message: &[u8], kind: Kind) -> Order
+#[tactic(auto, unfolding(sysex::specs::Judging::judge_of, crate::specs::Settings::fresh_settings, crate::specs::Whole::message_order, crate::specs::Private::body_in), using(ground::proofs::Tests::tests))]
+pub fn reason(message: &[u8], kind: Kind) -> Result<Order, Check>
     ensures { result ≡ reason_of kind message.now }
 {
-    let longest = sysex::longest(kind);
-    if longest < message.len() {
-        return Order::Refused(Check::TooLong(longest as u16));
-    }
-    if panel::is_framed(message) {
-        let end = message.len() - 1;
-        return sysex::judge(&message[..end], kind, settings::FRESH_SETTINGS);
-    }
-    Order::Refused(Check::Ours(kinds::device(kind)))
+    let body = panel::body(message, kind)?;
+    sysex::judge(body, kind, settings::FRESH_SETTINGS)
 }

@@ -1,11 +1,13 @@
--- The kind is tested first.
-use Rattle.sockets.specs.Promise.{byte_of, step_does}
+-- Behind its tests a byte call is its player's.
+use borrow.Author.Rules.{rules}
+use Rattle.programs.specs.Held.{held_of}
+use Rattle.sockets.specs.Box.{lent}
+use Rattle.podbox.proofs.Taking.{byte_ready}
 use Rattle.podbox.proofs.socket.take_byte.Goals as goal
 
-pub returns-then-is_kind : goal.returns-then-is_kind
-unfolding byte_of step_does
-returns-then-is_kind c = rw (← c.is_kind.ensures, c.if-is_kind.true, ← c.kind_of-known.ensures) c.take_lent.ensures
-
 pub returns : goal.returns
-unfolding byte_of
-returns c = rw (← c.is_kind.ensures, c.if-is_kind.false, c.refused.ensures.0, c.refused.ensures.1)
+returns c =
+    let a = c.args in
+    let entry = lent a.receiver.now (held_of a.memory.now a.marks.now) a.receive.now a.reply.now in
+    let ready = byte_ready a.kind a.settings a.socket a.byte entry c.in_ok-kind.kind c.in_ok-player.player c.in_ok-kind.ensures c.in_ok-are_lent.ensures c.in_ok-player.ensures in
+    search (rules, c.take_ready.ensures.all_after, ready)
