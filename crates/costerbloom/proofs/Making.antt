@@ -8,9 +8,7 @@ use lib.ListN.{length, drop, set, length-append}
 use lib.Seq.{set-append_seam}
 use borrow.Author.Tests.{leb-true, le-leb}
 use Rattle.std.specs.Prelude.{Ok, Err}
-use Rattle.ground.specs.declared.Refusal.{Refusal}
 use Rattle.ground.specs.Lists.{written}
-use Rattle.ground.specs.Tests.{Test, AllHold}
 use Rattle.ground.specs.Calls.{Left, left, leaves, outcome}
 use Rattle.ground.proofs.InOrder.{tested_cases, tested-map, tested_when}
 use Rattle.kinds.specs.declared.Kind.{Kind}
@@ -33,7 +31,7 @@ use Rattle.podbox.specs.Moves.{move_message}
 use Rattle.podbox.specs.Box.{list_tests, socket_player, Moves, hands_of, noted, box_rules, moves_of, list_answer, move_does}
 use Rattle.podbox.proofs.Taking.{sender}
 use Rattle.podbox.proofs.OwnChannel.{on_channel, controller-length}
-use Rattle.costerbloom.specs.Private.{Buffers, buffers, make_of, make_all}
+use Rattle.costerbloom.specs.Private.{buffers, make_of, make_all}
 
 -- a move is made, and its number noted: the moves that are left make of it what they made of what was before
 pub turn : (kind : Kind) (player : Player) (place : ℕ) (moves : List Move) (one : Move) (memory numbers after : List ℕ) (answer : Answered) → drop place moves ≡ one ∷ drop (place + 1) moves

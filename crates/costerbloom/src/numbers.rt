@@ -1,11 +1,12 @@
-// Settings from the numbers that C hands over, and answers as single numbers.
+// The C interface: settings from the numbers that C hands over, and answers as single numbers. These are functions and no
+// `From`, for the types on either side are not this crate's.
 ghost use Rattle.std.specs.Prelude.{◌≡◌};
 ghost use Rattle.costerbloom.specs.Numbers.{settings_of, packed, reading_number};
 
 use ground::Refusal;
 use sysex::{Answered, Settings};
 
-// One by one and not as a `Settings`, for this is the C interface.
+// C hands them over one by one.
 pub(crate) fn settings(
     channel: u8,
     omni: u8,

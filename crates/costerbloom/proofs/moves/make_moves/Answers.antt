@@ -1,4 +1,4 @@
-use Rattle.std.proofs.Common.{◌≡◌, [], refl, sym, ap, ◌∙◌, Ok, Err, rules, length-set}
+use Rattle.std.proofs.Common.{◌≡◌, [], sym, ap, ◌∙◌, Ok, Err, rules, length-set}
 use Rattle.std.proofs.lemmas.List.{drop_more}
 use lib.ListN.{drop_of_length-le}
 use Rattle.ground.specs.Calls.{left}
