@@ -80,7 +80,6 @@ fn begin(target: Target, kind: Kind, reply: &mut [u8]) -> usize
 }
 
 // Whether the dump of what is named goes out long: where its marks are set, or the kind has no spare bytes.
-// `There` is asked here and not told by Target: the theorems match on its `One` over any number.
 fn goes_long(target: Target, player: Player, held: &Held) -> bool
     requires { There target }
     ensures { result ≡ goes_long held.now.kind player target (content held.now) }
@@ -111,8 +110,8 @@ fn put_data(part: &[u8], long: bool, kind: Kind, place: usize, reply: &mut [u8])
     }
 }
 
-// The half bytes of programs without their spare bytes, from a place on. Returns the place behind them.
-// The place is counted: of a part that `chunks_exact_mut` lent, a proof learns the length alone.
+// The half bytes of programs without their spare bytes, from a place on. Returns the place behind them: it is counted, for
+// of a chunk that `chunks_exact_mut` lends, a caller learns no more than its length.
 fn split_short(part: &[u8], kind: Kind, place: usize, reply: &mut [u8]) -> usize
     requires { place + 2 * (length part.now / size_of kind * (size_of kind - 1)) ≤ length reply.old }
     ensures value { result ≡ place + 2 * (length part.now / size_of kind * (size_of kind - 1)) }
