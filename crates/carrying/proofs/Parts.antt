@@ -59,7 +59,7 @@ size_more PodPro = omega arith
 
 -- the part of memory that is lent of what is named
 module _ (kind : Kind) (player : Player) (t : Target) (memory : List ℕ) (place count : ℕ) (p : place ≡ place_for kind player t) (q : count ≡ count_for kind t)
-    (inside : place_for kind player t + count_for kind t ≤ length memory) where
+    (there : There t) (whole : memory_size kind ≤ length memory) where
   abbrev pub lent : List ℕ
   lent = take (place + count - place) (drop place memory)
 
@@ -67,7 +67,9 @@ module _ (kind : Kind) (player : Player) (t : Target) (memory : List ℕ) (place
   lent_is = ap (λ (n : ℕ). take n (drop place memory)) (add-sub_cancel_left place count) ∙ (λ i. take (q i) (drop (p i) memory))
 
   pub lent_count : length lent ≡ count_for kind t
-  lent_count = ap length lent_is ∙ length-take-le (count_for kind t) (drop (place_for kind player t) memory) (simp length-drop (omega arith))
+  lent_count =
+      let inside = place_inside kind player t there in
+      ap length lent_is ∙ length-take-le (count_for kind t) (drop (place_for kind player t) memory) (simp length-drop (omega arith))
 
   pub lent_slots : length lent / size_of kind ≡ slots_for t
   lent_slots = ap (λ (n : ℕ). n / size_of kind) (lent_count ∙ sym (count_slots kind t)) ∙ mul-div_cancel (slots_for t) (omega (arith, size-bounds kind))

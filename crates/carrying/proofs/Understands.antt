@@ -1,6 +1,6 @@
 -- What the judge answers, with what it says of the body: an order is given for a body of its format, and for no other.
-use Prim.Native.Nat.{ℕ, ◌+◌, ◌-◌, ◌*◌}
-use mathlib.Core.Bool.{Bool, true, false, not, ◌&&◌, false≢true}
+use Prim.Native.Nat.{ℕ, ◌+◌, ◌*◌}
+use mathlib.Core.Bool.{Bool, true, false, ◌&&◌, false≢true}
 use mathlib.Core.List.{List, [], ◌∷◌, ◌++◌}
 use mathlib.Core.Logic.{◌⊎◌, inl, inr, ⊎_elim}
 use mathlib.Core.Path.{◌≡◌, refl, sym, ap, subst, ◌∙◌}
@@ -14,7 +14,7 @@ use Rattle.ground.specs.Tests.{AllHold}
 use Rattle.ground.proofs.Tests.{both, by}
 use Rattle.ground.proofs.InOrder.{tested_cases}
 use Rattle.halves.specs.HalfBytes.{split, join}
-use Rattle.halves.proofs.Laws.{length-split, length-join, join-bytes, split_halves, split-join}
+use Rattle.halves.proofs.Laws.{length-split, length-join, join-bytes, split-join}
 use Rattle.sysex.specs.declared.Settings.{Settings}
 use Rattle.sysex.specs.declared.Order.{Order}
 use Rattle.sysex.specs.declared.Order.TheVariants.{Send, Store}
@@ -22,11 +22,11 @@ use Rattle.sysex.specs.declared.Check.{Check}
 use Rattle.std.specs.Prelude.{Result, Ok, Err}
 use Rattle.std.proofs.lemmas.Bool.{not-false}
 use Rattle.kinds.specs.declared.Kind.{Kind}
-use Rattle.kinds.specs.Kinds.{size_of, has_spare, header_of}
+use Rattle.kinds.specs.Kinds.{has_spare, header_of}
 use Rattle.programs.specs.declared.Target.{Target}
 use Rattle.programs.specs.declared.Target.TheVariants.{One, Edit, All}
-use Rattle.programs.specs.Held.{count_for, slots_for, sent_size, sent_for}
-use Rattle.programs.proofs.Slots.{sent_slots, long_all, short_fewer}
+use Rattle.programs.specs.Held.{count_for, sent_for}
+use Rattle.programs.proofs.Slots.{long_all, short_fewer}
 use Rattle.sysex.specs.Forms.{begins, opcode_of, type_of, program_of, request, program, edit, all, version_place, data_place, data_count, body_length, shortest}
 use Rattle.sysex.specs.Forms.{type_for, pp_for, request_body, dump_body, is_long, identity_body, is_identity, is_our_channel}
 use Rattle.sysex.specs.Judging.{has_form, has_program, further_tests, tests_of, target_of, order_of, form_order, body_order, judge_of}

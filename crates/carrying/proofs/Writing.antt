@@ -1,30 +1,29 @@
 -- Laws of a reply buffer that is written from the front, part after part.
-use Prim.Native.Nat.{ℕ, ◌+◌, ◌-◌, ◌*◌, ◌/◌, ◌≤◌}
-use mathlib.Core.Bool.{Bool, true, false, cond}
+use Prim.Native.Nat.{ℕ, ◌+◌, ◌*◌, ◌/◌, ◌≤◌}
+use mathlib.Core.Bool.{Bool, cond}
 use mathlib.Core.List.{List, [], ◌∷◌, ◌++◌, append_assoc}
 use mathlib.Core.Path.{◌≡◌, refl, sym, ap, ◌∙◌}
 use native.Mathlib.Omega.{arith}
-use lib.ListN.{length, take, drop, get_or, set, length-append}
+use lib.ListN.{length, drop, get_or, set, length-append}
 use lib.Seq.{take_at, drop_at, drop-drop}
 use Rattle.ground.specs.Lists.{written}
 use Rattle.halves.specs.HalfBytes.{split}
 use Rattle.halves.proofs.Laws.{length-split}
 use Rattle.kinds.specs.declared.Kind.{Kind}
 use Rattle.kinds.specs.Kinds.{size_of, identity_of}
-use Rattle.kinds.proofs.AnyKind.{identity-bytes, size-bounds}
+use Rattle.kinds.proofs.AnyKind.{identity-bytes}
 use Rattle.programs.specs.declared.Player.{Player}
 use Rattle.programs.specs.declared.Target.{Target}
 use Rattle.programs.specs.declared.Target.TheVariants.{One, Edit, All}
 use Rattle.programs.specs.Memory.{memory_size, put_part}
 use Rattle.programs.specs.Spares.{without_spares}
-use Rattle.programs.specs.Held.{Held, place_for, count_for, slots_for, bytes_in, goes_long, bytes_out}
+use Rattle.programs.specs.Held.{Held, place_for, count_for, goes_long, bytes_out}
 use Rattle.programs.proofs.Parts.{put-set}
 use Rattle.programs.proofs.Slots.{out_most}
-use Rattle.programs.proofs.Spares.{without_length}
 use Rattle.sysex.specs.declared.Settings.{Settings}
 use Rattle.sysex.specs.Forms.{type_for, pp_for, data_place, longest, dump_start, dump_body, identity_reply, ended}
 use Rattle.sysex.specs.Formats.{There}
-use Rattle.carrying.proofs.Parts.{place_inside, dump_room, lent, lent_is, lent_slots, lent_whole}
+use Rattle.carrying.proofs.Parts.{place_inside, dump_room, lent, lent_is, lent_slots}
 
 -- a part that is written behind what is written
 pub written_more : (n k : ℕ) (bytes more reply : List ℕ) → length bytes ≡ n → length more ≡ k
@@ -54,32 +53,31 @@ module _ (kind : Kind) (t : Target) (out : List ℕ) where
       e₂ ∙ (rw e₁ (written_more place (2 * length out) (dump_start kind (type_for t) (pp_for t)) (split out) r₀ (start_length t ∙ sym p) (length-split out))) in
       put-set end 0xF7 r₂ (omega arith) ∙ (rw s₂ (written_more end 1 (dump_body kind t out) (0xF7 ∷ []) r₀ (omega (arith, body_length)) refl))
 
--- what goes out, of the part of memory that is lent
-module _ (kind : Kind) (player : Player) (t : Target) (held : Held) (place count : ℕ) (p : place ≡ place_for kind player t) (q : count ≡ count_for kind t)
-    (inside : place_for kind player t + count_for kind t ≤ length held.memory) where
-  abbrev part : List ℕ
-  part = lent kind player t held.memory place count p q inside
-
-  abbrev out : Bool → List ℕ
-  out long = cond long (bytes_in kind player t held) (without_spares (size_of kind) (slots_for t) (bytes_in kind player t held))
-
-  pub out_long : goes_long kind player t held ≡ true → part ≡ bytes_out kind player t held
-  out_long long = lent_is kind player t held.memory place count p q inside ∙ sym (ap out long)
-
-  pub out_short : goes_long kind player t held ≡ false → without_spares (size_of kind) (length part / size_of kind) part ≡ bytes_out kind player t held
-  out_short short =
-      (λ i. without_spares (size_of kind) (lent_slots kind player t held.memory place count p q inside i) (lent_is kind player t held.memory place count p q inside i)) ∙ sym (ap out short)
-
-  pub short_count : goes_long kind player t held ≡ false → length part / size_of kind * (size_of kind - 1) ≡ length (bytes_out kind player t held)
-  short_count short =
-      sym (without_length (size_of kind) (size-bounds kind).0 (length part / size_of kind) part (lent_whole kind player t held.memory place count p q inside)) ∙ ap length (out_short short)
-
 -- the dump that goes out has room in the longest message
 pub dump_fits : (kind : Kind) (player : Player) (t : Target) (held : Held) → There t → memory_size kind ≤ length held.memory
     → data_place (type_for t) + 2 * length (bytes_out kind player t held) + 1 ≤ longest kind
 dump_fits kind player t held there whole =
     let most = out_most kind player t held (omega (arith, place_inside kind player t there)) in
     omega (arith, dump_room kind t)
+
+-- what goes out, of the part of memory that is lent
+module _ (kind : Kind) (player : Player) (t : Target) (held : Held) (place count : ℕ) (p : place ≡ place_for kind player t) (q : count ≡ count_for kind t)
+    (there : There t) (whole : memory_size kind ≤ length held.memory) where
+  abbrev part : List ℕ
+  part = lent kind player t held.memory place count p q there whole
+
+  pub out_is : (long : Bool) → long ≡ goes_long kind player t held → cond long part (without_spares (size_of kind) (length part / size_of kind) part) ≡ bytes_out kind player t held
+  out_is long e =
+      let is = lent_is kind player t held.memory place count p q there whole in
+      λ i. cond (e i) (is i) (without_spares (size_of kind) (lent_slots kind player t held.memory place count p q there whole i) (is i))
+
+  -- where its data end
+  pub data_end : (long : Bool) → long ≡ goes_long kind player t held → (start end : ℕ) → start ≡ data_place (type_for t)
+      → end ≡ start + 2 * length (cond long part (without_spares (size_of kind) (length part / size_of kind) part))
+      → (end ≡ start + 2 * length (bytes_out kind player t held)) × (end + 1 ≤ longest kind)
+  data_end long e start end s f =
+      let behind = f ∙ ap (λ (bytes : List ℕ). start + 2 * length bytes) (out_is long e) in
+      (behind, omega (arith, behind, dump_fits kind player t held there whole))
 
 -- the identity reply, with the four bytes that the kind tells one by one
 pub identified : (kind : Kind) (settings : Settings) (channel : ℕ) (told : List ℕ) → told ≡ identity_of kind

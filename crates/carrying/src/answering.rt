@@ -1,11 +1,11 @@
 // Replies, written from the start of the reply buffer.
-ghost use Rattle.std.specs.Prelude.{◌≡◌, ◌≤◌, ◌<◌, ◌+◌, ◌*◌, ◌/◌, ◌-◌, length};
+ghost use Rattle.std.specs.Prelude.{◌≡◌, ◌≤◌, ◌+◌, ◌*◌, ◌/◌, ◌-◌, cond, length};
 ghost use Rattle.ground.specs.Lists.{written};
 ghost use Rattle.halves.specs.HalfBytes.{split};
 ghost use Rattle.kinds.specs.Kinds.{size_of};
 ghost use Rattle.programs.specs.Memory.{put_part};
 ghost use Rattle.programs.specs.Spares.{without_spares, all_set};
-ghost use Rattle.programs.specs.Held.{count_for, goes_long, bytes_out};
+ghost use Rattle.programs.specs.Held.{goes_long, bytes_out};
 ghost use Rattle.programs.specs.Lending.{content};
 ghost use Rattle.sysex.specs.Forms.{type_for, pp_for, data_place, longest, dump_start, dump_body, identity_reply, ended};
 ghost use Rattle.sysex.specs.Formats.{There};
@@ -48,8 +48,11 @@ pub(crate) fn answer(target: Target, player: Player, held: &Held, reply: &mut [u
     ensures value { result ≡ length (ended (dump_body held.now.kind target (bytes_out held.now.kind player target (content held.now)))) }
     ensures reply_after { reply.new ≡ written (ended (dump_body held.now.kind target (bytes_out held.now.kind player target (content held.now)))) reply.old }
 {
-    let start = begin(target, held.kind, reply);
-    let end = put_data(target, player, held, start, reply);
+    let kind = held.kind;
+    let from = target.place(kind, player);
+    let part = &held.memory[from..from + target.count(kind)];
+    let start = begin(target, kind, reply);
+    let end = put_data(part, goes_long(target, player, held), kind, start, reply);
     reply[end] = 0xF7;
     end as u16 + 1
 }
@@ -76,30 +79,6 @@ fn begin(target: Target, kind: Kind, reply: &mut [u8]) -> usize
     }
 }
 
-// Its data: the half bytes of what is named, from a place on. Returns the place behind them.
-fn put_data(
-    target: Target,
-    player: Player,
-    held: &Held,
-    place: usize,
-    reply: &mut [u8],
-) -> usize
-    requires there { There target }
-    requires room { place + 2 * count_for held.now.kind target ≤ length reply.old }
-    ensures value { result ≡ place + 2 * length (bytes_out held.now.kind player target (content held.now)) }
-    ensures reply_after { reply.new ≡ put_part place (2 * length (bytes_out held.now.kind player target (content held.now))) (split (bytes_out held.now.kind player target (content held.now))) reply.old }
-{
-    let from = target.place(held.kind, player);
-    let part = &held.memory[from..from + target.count(held.kind)];
-    if goes_long(target, player, held) {
-        let end = place + 2 * part.len();
-        halves::split_into(part, &mut reply[place..end]).unwrap();
-        end
-    } else {
-        split_short(part, held.kind, place, reply)
-    }
-}
-
 // Whether the dump of what is named goes out long: where its marks are set, or the kind has no spare bytes.
 fn goes_long(target: Target, player: Player, held: &Held) -> bool
     requires { There target }
@@ -116,7 +95,23 @@ fn all_set(marks: &[u8]) -> bool
     marks.iter().all(|mark| *mark == 1)
 }
 
-// The half bytes of programs without their spare bytes, from a place on. Returns the place behind them.
+// The data of a dump, from a place on: the half bytes of some programs, long or short. Returns the place behind them.
+fn put_data(part: &[u8], long: bool, kind: Kind, place: usize, reply: &mut [u8]) -> usize
+    requires whole { length part.now ≡ length part.now / size_of kind * size_of kind }
+    requires room { place + 2 * length part.now ≤ length reply.old }
+    ensures { let out = cond long part.now (without_spares (size_of kind) (length part.now / size_of kind) part.now) in (result ≡ place + 2 * length out) × (reply.new ≡ put_part place (2 * length out) (split out) reply.old) }
+{
+    if long {
+        let end = place + 2 * part.len();
+        halves::split_into(part, &mut reply[place..end]).unwrap();
+        end
+    } else {
+        split_short(part, kind, place, reply)
+    }
+}
+
+// The half bytes of programs without their spare bytes, from a place on. Returns the place behind them: it is counted, for
+// of a chunk that `chunks_exact_mut` lends, a caller learns no more than its length.
 fn split_short(part: &[u8], kind: Kind, place: usize, reply: &mut [u8]) -> usize
     requires { place + 2 * (length part.now / size_of kind * (size_of kind - 1)) ≤ length reply.old }
     ensures value { result ≡ place + 2 * (length part.now / size_of kind * (size_of kind - 1)) }

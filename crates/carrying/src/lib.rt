@@ -46,7 +46,17 @@ pub fn carry_out(
     ensures { left result (held_of memory.new marks.new) reply.new ≡ carry_of kind settings player body.now (held_of memory.old marks.old) reply.old }
 {
     are_lent(kind, memory, marks, reply)?;
-    carry(body, player, settings, &mut Held { kind, memory, marks }, reply)
+    carry(
+        body,
+        player,
+        settings,
+        &mut Held {
+            kind,
+            memory,
+            marks,
+        },
+        reply,
+    )
 }
 
 // The same where what the box holds is known to be whole.
@@ -68,9 +78,7 @@ pub fn carry(
             answering::identify(cc, held.kind, settings, reply);
             Ok(Answer::Sent(17))
         }
-        Order::Send(target) => Ok(Answer::Sent(answering::answer(
-            target, player, held, reply,
-        ))),
+        Order::Send(target) => Ok(Answer::Sent(answering::answer(target, player, held, reply))),
         Order::Store(target) => {
             storing::store(target, body, player, held);
             Ok(Answer::Stored)

@@ -1,5 +1,4 @@
 pub mod Stands
-pub mod ByNumbers
 pub mod Keeps
 pub mod Rules
 pub mod Cases

@@ -12,7 +12,7 @@ pub use soundness::sound;
 
 // What a socket keeps between its bytes: plain numbers, so that any bits C may lend are a value. All zero is fresh.
 #[repr(C)]
-#[derive(Clone, Copy)]
+#[derive(Clone, Copy, Debug, Default, PartialEq, Eq)]
 pub struct Receiver {
     // How many bytes of the open SysEx are stored.
     pub stored: u16,
@@ -32,18 +32,12 @@ pub struct Receiver {
 pub fn fresh() -> Receiver
     ensures { result ≡ fresh }
 {
-    Receiver {
-        stored: 0,
-        inside: 0,
-        over: 0,
-        running: 0,
-        held: 0,
-        waiting: 0,
-    }
+    Receiver::default()
 }
 
-// What a byte did, and what it leaves to do for whoever has the receive buffer.
-#[derive(Clone, Copy)]
+// What a byte did, and what it leaves to do for whoever has the receive buffer. `Nothing` is an event among others, and the
+// second data byte 0 where there is none is document 01's (`Message` of sockets/specs/Framer): so neither is an Option.
+#[derive(Clone, Copy, Debug, PartialEq, Eq)]
 pub enum Event {
     Nothing,
     // The byte belongs at this place of the receive buffer.
@@ -61,7 +55,7 @@ pub enum Event {
 }
 
 // The event stands first: behind the receiver it would be written last, and the compiler would write it through memory.
-#[derive(Clone, Copy)]
+#[derive(Clone, Copy, Debug, PartialEq, Eq)]
 pub struct Stepped {
     pub event: Event,
     pub receiver: Receiver,

@@ -5,10 +5,8 @@ use mathlib.Core.List.{List, [], ◌∷◌, ◌++◌}
 use mathlib.Core.Path.{◌≡◌, refl, sym, ap, ◌∙◌}
 use native.Mathlib.Nat.{zero-mul, suc-mul}
 use native.Mathlib.Omega.{arith}
-use lib.ListN.{length, get_or, take, drop, replicate, length-append, length-drop, drop_of_length-le, take-append-drop}
+use lib.ListN.{length, take, drop, replicate, length-append, length-drop, take-append-drop}
 use lib.Seq.{length-take-le, take_all, take_at, drop_at, drop-drop, append_snoc}
-use borrow.Author.Tests.{ne_eqb, eq-eqb}
-use Rattle.ground.proofs.Lists.{drop-one}
 use Rattle.programs.specs.Spares.{with_spares, without_spares, all_set}
 
 module _ (size : ℕ) (some : 1 ≤ size) where

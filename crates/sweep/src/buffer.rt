@@ -9,7 +9,7 @@ pub(crate) type Edit = [u8; LARGEST];
 
 // The buffer for a value, with byte 46 at a setting.
 pub(crate) fn made(value: u32, setting: u8) -> Edit {
-    let mut edit = [0u8; LARGEST];
+    let mut edit = [0; LARGEST];
     fill(&mut edit, value);
     edit[28] = (value % 3) as u8;
     edit[46] = setting;
@@ -18,16 +18,16 @@ pub(crate) fn made(value: u32, setting: u8) -> Edit {
 
 // Bytes that differ from place to place and from value to value. The value is reduced first so that any may come.
 fn fill(edit: &mut Edit, value: u32) {
-    for i in 0..LARGEST {
-        edit[i] = ((37 * i as u32 + 5 * (value % 256) + 11) % 256) as u8;
+    for (place, byte) in edit.iter_mut().enumerate() {
+        *byte = ((37 * place as u32 + 5 * (value % 256) + 11) % 256) as u8;
     }
 }
 
 // Each byte times its place, counted from 1, summed: a byte at another place weighs something else.
 pub(crate) fn weighed(edit: &Edit) -> u32 {
     let mut sum = 0;
-    for i in 0..LARGEST {
-        sum += weight(i as u32, edit[i]);
+    for (place, byte) in edit.iter().enumerate() {
+        sum += weight(place as u32, *byte);
     }
     sum
 }
@@ -44,8 +44,8 @@ pub(crate) fn put(edit: &mut Edit, place: usize, width: usize, number: u32)
     requires { place + width ≤ largest }
 {
     let mut rest = number;
-    for i in 0..width {
-        edit[place + i] = (rest % 256) as u8;
+    for byte in &mut edit[place..place + width] {
+        *byte = (rest % 256) as u8;
         rest /= 256;
     }
 }

@@ -1,111 +1,89 @@
 // One controller's sweeps.
+use crate::buffer;
 use crate::buffer::Edit;
 use crate::tally::Tally;
-use crate::{buffer, tally};
-use controls::{Change, Reading};
+use ground::Refusal;
 use kinds::Kind;
-
-// The settings of byte 46.
-const SETTINGS: u32 = 256;
 
 // The values that are applied: 0 to 127, and one past them.
 const VALUES: u32 = 129;
 
-// Scaling, for each value that a byte has.
-pub(crate) fn scaled(controller: u32, kind: Kind) -> Tally {
-    let mut tally = tally::fresh();
-    for value in 0..256 {
-        tally = tally::noted(tally, controls::scale(controller, value, kind));
-    }
-    tally
+// A controller of a kind.
+#[derive(Clone, Copy)]
+pub(crate) struct Swept {
+    pub(crate) controller: u32,
+    pub(crate) kind: Kind,
 }
 
-// Applying, for each setting and, under it, each value.
-pub(crate) fn applied(controller: u32, kind: Kind) -> Tally {
-    let mut tally = tally::fresh();
-    for turn in 0..SETTINGS * VALUES {
-        tally = applied_once(
-            tally,
-            controller,
-            turn % VALUES,
-            kind,
-            (turn / VALUES) as u8,
-        );
-    }
-    tally
-}
-
-// The answer's number, and then what stands in the buffer afterwards.
-fn applied_once(tally: Tally, controller: u32, value: u32, kind: Kind, setting: u8) -> Tally {
-    let mut edit = buffer::made(value, setting);
-    let change = controls::apply(controller, value, kind, &mut edit);
-    let weight = buffer::weighed(&edit);
-    match change {
-        Change::Applied => tally::mixed(tally::mixed(tally::counted(tally), 3), weight),
-        Change::Refused(number) => tally::mixed(tally::mixed_byte(tally, number), weight),
-    }
-}
-
-// Showing back, for each setting, and then for each number in the field.
-pub(crate) fn shown(controller: u32, kind: Kind) -> Tally {
-    shown_numbers(shown_settings(controller, kind), controller, kind)
-}
-
-fn shown_settings(controller: u32, kind: Kind) -> Tally {
-    let mut tally = tally::fresh();
-    for setting in 0..SETTINGS {
-        tally = tally::noted(tally, shown_at(controller, kind, setting as u8));
-    }
-    tally
-}
-
-// The buffer is made once: each number takes the place of the one before.
-fn shown_numbers(before: Tally, controller: u32, kind: Kind) -> Tally {
-    let row = controls::row_of(controller, kind);
-    let place = row.place as usize;
-    let width = row.width as usize;
-    let mut edit = buffer::made(0, first_selecting(controller, kind));
-    let mut tally = before;
-    for number in 0..numbers(row.width) {
-        buffer::put(&mut edit, place, width, number);
-        tally = tally::noted(tally, shown_from(controller, kind, &edit));
-    }
-    tally
-}
-
-fn shown_at(controller: u32, kind: Kind, setting: u8) -> Reading {
-    shown_from(controller, kind, &buffer::made(0, setting))
-}
-
-// The whole buffer, so that nobody who changed it has to show its length.
-fn shown_from(controller: u32, kind: Kind, edit: &Edit) -> Reading {
-    controls::show_back(controller, kind, edit)
-}
-
-// The smallest setting that selects the controller's effect, 0 where it needs none; 255 where no smaller one does.
-fn first_selecting(controller: u32, kind: Kind) -> u8 {
-    for setting in 0..255 {
-        if is_selecting(controller, kind, setting) {
-            return setting;
+impl Swept {
+    // Scaling, for each value that a byte has.
+    pub(crate) fn scaled(self) -> Tally {
+        let mut tally = Tally::default();
+        for value in 0..256 {
+            tally = tally.noted(controls::scale(self.controller, value, self.kind));
         }
+        tally
     }
-    255
-}
 
-// 19: "its effect is not selected".
-fn is_selecting(controller: u32, kind: Kind, setting: u8) -> bool {
-    match shown_at(controller, kind, setting) {
-        Reading::Value(_) => true,
-        Reading::Refused(number) => number != 19,
+    // Applying, for each setting of byte 46 and, under it, each value.
+    pub(crate) fn applied(self) -> Tally {
+        let mut tally = Tally::default();
+        for setting in 0..=255 {
+            for value in 0..VALUES {
+                tally = self.applied_once(tally, value, setting);
+            }
+        }
+        tally
     }
-}
 
-// How many numbers a field of so many bytes holds; none where there is no field.
-fn numbers(width: u8) -> u32 {
-    match width {
-        0 => 0,
-        1 => 256,
-        2 => 65536,
-        _ => 16777216,
+    // The answer's number, and then what stands in the buffer afterwards.
+    fn applied_once(self, tally: Tally, value: u32, setting: u8) -> Tally {
+        let mut edit = buffer::made(value, setting);
+        let answered = match controls::apply(self.controller, value, self.kind, &mut edit) {
+            Ok(()) => tally.counted().mixed(3),
+            Err(refusal) => tally.mixed(u8::from(refusal) as u32),
+        };
+        answered.mixed(buffer::weighed(&edit))
+    }
+
+    // Showing back, for each setting, and then for each number in the field.
+    pub(crate) fn shown(self) -> Tally {
+        self.shown_numbers(self.shown_settings())
+    }
+
+    fn shown_settings(self) -> Tally {
+        let mut tally = Tally::default();
+        for setting in 0..=255 {
+            tally = tally.noted(self.shown_from(&buffer::made(0, setting)));
+        }
+        tally
+    }
+
+    // The buffer is made once: each number takes the place of the one before.
+    fn shown_numbers(self, before: Tally) -> Tally {
+        let Some(row) = controls::row_of(self.controller, self.kind) else {
+            return before;
+        };
+        let width = row.width as usize;
+        let mut edit = buffer::made(0, self.first_selecting());
+        let mut tally = before;
+        for number in 0..1 << (8 * width) {
+            buffer::put(&mut edit, row.place as usize, width, number);
+            tally = tally.noted(self.shown_from(&edit));
+        }
+        tally
+    }
+
+    // The whole buffer, so that nobody who changed it has to show its length.
+    fn shown_from(self, edit: &Edit) -> Result<u16, Refusal> {
+        controls::show_back(self.controller, self.kind, edit)
+    }
+
+    // The smallest setting that selects the controller's effect, 0 where it needs none; 255 where no smaller one does.
+    fn first_selecting(self) -> u8 {
+        (0..255)
+            .find(|setting| self.shown_from(&buffer::made(0, *setting))
+                != Err(Refusal::NotSelected))
+            .unwrap_or(255)
     }
 }

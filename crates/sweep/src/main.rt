@@ -7,6 +7,8 @@ mod controllers;
 mod half_bytes;
 mod tally;
 
+use controllers::Swept;
+use kinds::Kind;
 use std::io;
 use tally::Tally;
 
@@ -14,28 +16,24 @@ fn print_tally(rt: &impl Print, tally: Tally) -> io::Result<()> {
     print!(rt; "\t{}\t{}", tally.count, tally.digest)
 }
 
-fn print_controller(rt: &impl Print, number: u32, controller: u32) -> io::Result<()> {
-    let kind = kinds::kind_of(number);
-    print!(rt; "{number}\t{controller}")?;
-    print_tally(rt, controllers::scaled(controller, kind))?;
-    print_tally(rt, controllers::applied(controller, kind))?;
-    print_tally(rt, controllers::shown(controller, kind))?;
-    println!(rt)
-}
-
-// The 128 controllers, and one past them, of the kind that has this number.
-fn print_controllers(rt: &impl Print, number: u32) -> io::Result<()> {
+// The 128 controllers, and one past them, of a kind with its number.
+fn print_controllers(rt: &impl Print, number: u32, kind: Kind) -> io::Result<()> {
     for controller in 0..129 {
-        print_controller(rt, number, controller)?;
+        let swept = Swept { controller, kind };
+        print!(rt; "{number}\t{controller}")?;
+        print_tally(rt, swept.scaled())?;
+        print_tally(rt, swept.applied())?;
+        print_tally(rt, swept.shown())?;
+        println!(rt)?;
     }
     Ok(())
 }
 
 fn main(rt: HostRuntime) -> io::Result<()> {
     println!(rt; "kind\tcontroller\tscaled\tdigest\tapplied\tdigest\tshown\tdigest")?;
-    print_controllers(&rt, kinds::POD)?;
-    print_controllers(&rt, kinds::BASS_POD)?;
-    print_controllers(&rt, kinds::POD_PRO)?;
+    print_controllers(&rt, kinds::POD, Kind::Pod)?;
+    print_controllers(&rt, kinds::BASS_POD, Kind::BassPod)?;
+    print_controllers(&rt, kinds::POD_PRO, Kind::PodPro)?;
     print!(rt; "halves")?;
     print_tally(&rt, half_bytes::joined_and_split())?;
     println!(rt)

@@ -1,7 +1,7 @@
 // What is counted and digested over a run of answers.
-use controls::Reading;
+use ground::Refusal;
 
-#[derive(Clone, Copy)]
+#[derive(Clone, Copy, Debug, Default, PartialEq, Eq)]
 pub(crate) struct Tally {
     pub(crate) count: u32,
     pub(crate) digest: u64,
@@ -10,40 +10,28 @@ pub(crate) struct Tally {
 // A digest is below this.
 const MODULUS: u64 = 4294967291;
 
-pub(crate) fn fresh() -> Tally {
-    Tally {
-        count: 0,
-        digest: 0,
+impl Tally {
+    // One more counted, up to the largest count that there is.
+    pub(crate) fn counted(self) -> Tally {
+        Tally {
+            count: self.count.saturating_add(1),
+            ..self
+        }
     }
-}
 
-// One more counted, up to the largest count that there is.
-pub(crate) fn counted(tally: Tally) -> Tally {
-    if tally.count < 4294967295 {
-        return Tally {
-            count: tally.count + 1,
-            digest: tally.digest,
-        };
+    // One more number in the digest, which is reduced first so that any tally may come.
+    pub(crate) fn mixed(self, number: u32) -> Tally {
+        Tally {
+            digest: (self.digest % MODULUS * 1000003 + number as u64) % MODULUS,
+            ..self
+        }
     }
-    tally
-}
 
-// One more number in the digest, which is reduced first so that any tally may come.
-pub(crate) fn mixed(tally: Tally, number: u32) -> Tally {
-    Tally {
-        count: tally.count,
-        digest: (tally.digest % MODULUS * 1000003 + number as u64) % MODULUS,
-    }
-}
-
-pub(crate) fn mixed_byte(tally: Tally, byte: u8) -> Tally {
-    mixed(tally, byte as u32)
-}
-
-// A value is counted and mixed in. A refusal is mixed in above every value.
-pub(crate) fn noted(tally: Tally, reading: Reading) -> Tally {
-    match reading {
-        Reading::Value(value) => mixed(counted(tally), value as u32),
-        Reading::Refused(number) => mixed(tally, 65536 + number as u32),
+    // A value is counted and mixed in. A refusal is mixed in by its number, above every value: so the lines are printed.
+    pub(crate) fn noted(self, reading: Result<u16, Refusal>) -> Tally {
+        match reading {
+            Ok(value) => self.counted().mixed(value as u32),
+            Err(refusal) => self.mixed(65536 + u8::from(refusal) as u32),
+        }
     }
 }

@@ -1,3 +1,1 @@
-pub mod FirstBytes
 pub mod AllKept
-pub mod Known

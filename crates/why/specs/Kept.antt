@@ -1,35 +1,22 @@
--- What is kept of an input that comes part after part: as many of its first bytes as the buffer has places.
-use Rattle.std.specs.Prelude.{ℕ, ◌+◌, ◌*◌, min, List, [], ◌∷◌, ◌++◌, ◌≡◌, length, take, IfSome}
+-- What is kept of an input, and what is told of it.
+use Rattle.std.specs.Prelude.{ℕ, ◌+◌, ◌*◌, List, ◌≡◌, take, IfSome, Result}
+use Rattle.std.specs.Option.{option_map}
 use Rattle.std.specs.declared.option.Option.{Option}
+use Rattle.kinds.specs.declared.Kind.{Kind}
 use Rattle.kinds.specs.Kinds.{largest}
 use Rattle.programs.specs.Memory.{program_count}
-use Rattle.why.specs.declared.Input.{Input}
-use Rattle.why.specs.declared.Input.TheVariants as input
+use Rattle.sysex.specs.declared.Order.{Order}
+use Rattle.sysex.specs.declared.Check.{Check}
+use Rattle.podbox.specs.Whole.{reason_of}
 
--- how many places the buffer has: one more than the longest message of any kind has bytes
+-- how many bytes are kept at most: one more than the longest message of any kind has
 abbrev pub buffer_size : ℕ
 buffer_size = 9 + 2 * (program_count * largest) + 1
 
--- one part: `count` bytes are kept where `before` were, once `part` came, and the buffer keeps its length
-pub record Kept (count : ℕ) (message entry : List ℕ) (before : ℕ) (part : List ℕ) : Type 0 where
-  pub places : length message ≡ length entry
-  pub counted : count ≡ min (length entry) (before + length part)
-  pub first : take count message ≡ take (length entry) (take before entry ++ part)
+-- where it is known what a reader has left, what is kept of it: its first bytes, as many as are kept at most or, where they are fewer, all
+abbrev pub kept_of : Option (List ℕ) → Option (List ℕ)
+kept_of left = option_map (take buffer_size) left
 
--- one part after the other, each kept on what the one before it left
-pub data Steps (count : ℕ) (message : List ℕ) : List (List ℕ) → ℕ → List ℕ → Type 0 where
-  done : Steps count message [] count message
-  next : {between before : ℕ} {exit entry part : List ℕ} {parts : List (List ℕ)}
-      → Kept between exit entry before part → Steps count message parts between exit → Steps count message (part ∷ parts) before entry
-
--- what `read_all` does to a buffer: the steps of some parts, the first of them with nothing kept
-abbrev pub Reads : Input → List ℕ → List ℕ → Type 0
-Reads (input.Kept count) message entry = (parts : List (List ℕ)) × Steps count message parts 0 entry
-Reads input.Failed message entry = Unit {0}
-
--- Where it is known what a reader had left, that is what was kept: its first bytes, as many as the buffer has places or, where
--- they are fewer, all. Of standard input it is not known; what is kept of it is a theorem over any parts (`all-kept`).
-abbrev pub ReadsKnown : Input → List ℕ → List ℕ → Option (List ℕ) → Type 0
-ReadsKnown (input.Kept count) message entry left =
-    IfSome left (λ all. (count ≡ min (length entry) (length all)) × (take count message ≡ take (length entry) all))
-ReadsKnown input.Failed message entry left = Unit {0}
+-- What is told is the reason of an input; where it is known what the reader had left, of all of that. What standard input gives no contract can say.
+abbrev pub IsReasonOfAll : Kind → Option (List ℕ) → Result Order Check → Type 0
+IsReasonOfAll kind left reason = (all : List ℕ) × (reason ≡ reason_of kind all) × IfSome left (λ known. all ≡ known)

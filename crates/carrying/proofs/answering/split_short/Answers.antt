@@ -26,9 +26,13 @@ loop-program-preserved c =
     let room = rw (← c.size-size.ensures) at c.requires in
     let some : 1 ≤ size = omega (arith, c.size-size.ensures, size-bounds c.args.kind) in
     let fit = split_fit size _ _ _ _ _ c.loop-program.reply some (s.1.1 ∙ i.2) (rw s.1.0 at i.3) (omega (arith, room, c.loop-program.auto.reply)) in
-    let made = (split_whole _ _ _ _ c.split_into.ensures fit.0).1 in
-    (rw (s.0, i.2) (omega arith), tt, s.0 ∙ i.2, fit.1,
-    split_turn size c.loop-program.to c.in-Some.program.now (chunks_exact_rest c.next.new.self) _ c.loop-program.reply _ some (s.1.1 ∙ i.2) fit.2 made (rw s.1.0 at i.4))
+    let made = (split_whole _ _ _ _ c.split_into.ensures fit.0).1 in (
+      rw (s.0, i.2) (omega arith),
+      tt,
+      s.0 ∙ i.2,
+      fit.1,
+      split_turn size c.loop-program.to c.in-Some.program.now (chunks_exact_rest c.next.new.self) _ c.loop-program.reply _ some (s.1.1 ∙ i.2) fit.2 made (rw s.1.0 at i.4),
+    )
 
 pub returns-clause-reply_after : goal.returns-clause-reply_after
 returns-clause-reply_after c =

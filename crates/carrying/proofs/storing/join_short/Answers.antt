@@ -32,9 +32,14 @@ loop-program-preserved c =
     let some : 2 ≤ size = omega (arith, c.size-size.ensures, size_more c.args.kind) in
     let fit = join_fit size c.loop-program.to _ x ys c.loop-program.part some (s.1.1 ∙ i.2) (rw s.1.0 at i.3) (omega (arith, room, c.loop-program.auto.part)) in
     let low = halves_parts x ys (rw s.1.0 at i.4) in
-    let made = (join_whole _ _ _ _ c.join_any.ensures fit.0 low.0).1 in
-    (rw (s.0, i.2) (omega arith), tt, s.0 ∙ i.2, fit.1, low.1,
-    join_turn size c.loop-program.to _ x ys c.loop-program.part some (s.1.1 ∙ i.2) (rw s.1.0 at i.3) (omega (arith, room, c.loop-program.auto.part)) _ _ made (rw s.1.0 at i.5))
+    let made = (join_whole _ _ _ _ c.join_any.ensures fit.0 low.0).1 in (
+      rw (s.0, i.2) (omega arith),
+      tt,
+      s.0 ∙ i.2,
+      fit.1,
+      low.1,
+      join_turn size c.loop-program.to _ x ys c.loop-program.part some (s.1.1 ∙ i.2) (rw s.1.0 at i.3) (omega (arith, room, c.loop-program.auto.part)) _ _ made (rw s.1.0 at i.5),
+    )
 
 pub returns : goal.returns
 returns c =

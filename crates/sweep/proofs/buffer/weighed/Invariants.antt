@@ -3,5 +3,5 @@ use Rattle.std.proofs.Common.{◌*◌, ◌≤◌}
 use Rattle.kinds.specs.Kinds.{largest}
 use Rattle.sweep.proofs.buffer.weighed.Given as goal
 
-abbrev pub invariant-loop-i : goal.invariant-loop-i
-invariant-loop-i l = l.sum ≤ largest * 255 * l.i
+abbrev pub invariant-loop-place : goal.invariant-loop-place
+invariant-loop-place l = l.sum ≤ largest * 255 * l.place
