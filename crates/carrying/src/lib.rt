@@ -60,7 +60,7 @@ pub fn carry_out(
 }
 
 // The same where what the box holds is known to be whole.
-pub fn carry(
+fn carry(
     body: &[u8],
     player: Player,
     settings: Settings,

@@ -22,7 +22,7 @@ impl Control {
         requires data_byte { v ≤ 127 }
         ensures { edit.new ≡ store_row self.row v edit.old }
     {
-        let number = self.next(v, self.read(edit));
+        let number = self.next(v, edit);
         put(edit, self.row.place as usize, self.row.width, number);
     }
 }

@@ -1,5 +1,7 @@
 // The formulas, and the way back from a stored number.
-ghost use Rattle.std.specs.Prelude.{◌≡◌, ◌≤◌, ◌+◌, ◌/◌, ℕ};
+ghost use Rattle.std.specs.Prelude.{◌≡◌, ◌≤◌, ◌+◌, ◌/◌, ℕ, length};
+ghost use Rattle.kinds.specs.Kinds.{size_of};
+ghost use Rattle.controls.specs.Fields.{number_in};
 ghost use Rattle.controls.specs.Formulas.{number_for, m_of, next_for};
 ghost use Rattle.controls.specs.Showing.{smallest, seven_bits, shown_of};
 
@@ -21,16 +23,22 @@ impl Control {
         }
     }
 
-    // The number to store for v where `stored` stands.
+    // The number to store for v. Only the formulas of m look at the one that stands there.
     #[tactic(auto, unfolding(crate::specs::Formulas::m_of, crate::specs::Formulas::next_for))]
-    pub(crate) fn next(self, v: u16, stored: u32) -> u32
-        requires { v ≤ 127 }
-        ensures { result ≡ next_for self.row v stored }
+    pub(crate) fn next(self, v: u16, edit: &[u8]) -> u32
+        requires long { size_of self.kind ≤ length edit.now }
+        requires data_byte { v ≤ 127 }
+        ensures { result ≡ next_for self.row v (number_in self.row edit.now) }
     {
-        let m = m_of(stored);
         match self.row.formula {
-            Formula::MUpper => 6 * (v as u32 * 128 + m % 128),
-            Formula::MLower => 6 * (m / 128 * 128 + v as u32),
+            Formula::MUpper => {
+                let m = m_of(self.read(edit));
+                6 * (v as u32 * 128 + m % 128)
+            }
+            Formula::MLower => {
+                let m = m_of(self.read(edit));
+                6 * (m / 128 * 128 + v as u32)
+            }
             _ => self.number(v) as u32,
         }
     }

@@ -87,6 +87,7 @@ pub fn show_back(controller: u32, kind: Kind, edit: &[u8]) -> Result<u16, Refusa
 }
 
 impl Control {
+    #[inline(always)]
     pub(crate) fn find(controller: u32, kind: Kind) -> Result<Control, Refusal>
         ensures { Finds kind controller result }
     {
@@ -97,6 +98,7 @@ impl Control {
     }
 
     // Where the edit buffer is lent.
+    #[inline(always)]
     pub(crate) fn lent(controller: u32, kind: Kind, edit: &[u8]) -> Result<Control, Refusal>
         ensures { Lends kind controller edit.now result }
     {

@@ -31,6 +31,7 @@ fn row(
 
 // The row of a controller of a kind, if it has one. A POD Pro has two rows of its own, and goes on as a POD.
 #[tactic(auto, unfolding(crate::specs::Table::row_of, crate::specs::Table::table, kinds::specs::Kinds::highest_model), using(ground::proofs::Tests::tests))]
+#[inline(always)]
 pub fn row_of(controller: u32, kind: Kind) -> Option<Row>
     ensures { result ≡ if_listed (row_of kind controller) }
 {
@@ -46,8 +47,9 @@ pub fn row_of(controller: u32, kind: Kind) -> Option<Row>
 }
 
 // The 49 controllers of a POD: the first byte of the field, the bytes, the formula, the least number, the highest value,
-// the effect.
+// the effect. A call of its own: built into a caller, its arms are jumps, and no table.
 #[tactic(auto, unfolding(crate::specs::Table::row_of, crate::specs::Table::table, kinds::specs::Kinds::highest_model), using(ground::proofs::Tests::tests))]
+#[inline(never)]
 fn pod_row(controller: u32) -> Option<Row>
     ensures { result ≡ if_listed (row_of Pod controller) }
 {

@@ -50,6 +50,7 @@ fn is_program_change(status: u8, number: u8, kind: Kind) -> bool
 }
 
 // A list of moves is lent no marks, so this asks for memory alone, and for its length.
+#[inline(always)]
 pub(crate) fn controller(
     number: u8,
     value: u8,

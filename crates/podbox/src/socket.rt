@@ -141,7 +141,15 @@ fn act(
         Event::TooLong => Err(Refusal::TooLong),
         Event::SysEx(count) => {
             let body = &receive[..count as usize];
-            carrying::carry(body, player, settings, held, reply)
+            carrying::carry_out(
+                body,
+                player,
+                held.kind,
+                settings,
+                held.memory,
+                held.marks,
+                reply,
+            )
         }
         Event::Channel(status, first, second) => {
             channel::channel(status, first, second, player, settings, held)

@@ -15,4 +15,4 @@ returns-in-SysEx-clause-all_after c next =
     let a = c.args in
     let held = a.held.now in
     rw (c.in-SysEx.is, own_socket a.player)
-    (ap (λ (l : Left). took next l.answer l.held a.receive.now l.reply) (c.carry.ensures.all_after ∙ carry_long _ _ _ _ _ _ held.whole held.marked c.requires.room.1))
+    (ap (λ (l : Left). took next l.answer l.held a.receive.now l.reply) (c.carry_out.ensures ∙ carry_long _ _ _ _ _ _ held.whole held.marked c.requires.room.1))
