@@ -18,6 +18,7 @@ use Rattle.ground.specs.Tests.{Test, tested, AllHold}
 use Rattle.ground.proofs.InOrder.{tested_cases}
 use Rattle.ground.proofs.Tests.{both}
 use Rattle.programs.specs.Held.{Held}
+use Rattle.programs.proofs.Players.{edit-inside}
 use Rattle.framing.specs.declared.Receiver.{Receiver}
 use Rattle.framing.specs.declared.Event.{Event}
 use Rattle.framing.specs.declared.Event.TheVariants.{Nothing, Collect, Cut, CutAndOpen, TooLong, SysEx, Channel}
@@ -32,6 +33,9 @@ use Rattle.sysex.proofs.Lengths.{longest_bounds}
 use Rattle.podbox.specs.Messages.{is_program_change}
 use Rattle.podbox.specs.Box.{limit, socket_player, box_rules}
 use Rattle.podbox.specs.Private.{Within, socket_for, passes, length_tests, ready_does, largest_memory, largest_buffer, are_largest}
+
+-- a program, the longest message, and where an edit buffer stands, of any kind
+pub ruleset bounds = (size-bounds, longest_bounds, edit-inside)
 
 at_event : (kind : Kind) (event : Event) → ((place : ℕ) → event ≡ Collect place → place < limit kind) → ((count : ℕ) → event ≡ SysEx count → count ≤ limit kind) → Within kind event
 at_event kind Nothing below within = tt

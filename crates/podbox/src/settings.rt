@@ -30,7 +30,6 @@ pub const FRESH_SETTINGS: Settings = Settings {
 };
 
 // The most bytes of a SysEx that are stored: all but its F7.
-#[tactic(auto, using(sysex::proofs::Lengths::longest_bounds))]
 pub(crate) fn limit(kind: Kind) -> u16
     ensures { result ≡ limit kind }
 {

@@ -112,7 +112,7 @@ fn is_ready(receiver: Receiver, settings: Settings, held: &Held) -> Result<(), R
 }
 
 // What the byte did, carried on to the buffers.
-#[tactic(auto, unfolding(sockets::specs::Promise::step_does, crate::specs::Messages::message_does), using(crate::proofs::Taking::own_socket))]
+#[tactic(auto, unfolding(sockets::specs::Promise::step_does, crate::specs::Messages::message_does, carrying::specs::Carrying::carry_of), using(ground::proofs::Tests::tests, crate::proofs::Taking::own_socket))]
 fn act(
     event: Event,
     player: Player,
