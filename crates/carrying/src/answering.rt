@@ -110,7 +110,8 @@ fn put_data(part: &[u8], long: bool, kind: Kind, place: usize, reply: &mut [u8])
     }
 }
 
-// The half bytes of programs without their spare bytes, from a place on. Returns the place behind them.
+// The half bytes of programs without their spare bytes, from a place on. Returns the place behind them: it is counted, for
+// of a chunk that `chunks_exact_mut` lends, a caller learns no more than its length.
 fn split_short(part: &[u8], kind: Kind, place: usize, reply: &mut [u8]) -> usize
     requires { place + 2 * (length part.now / size_of kind * (size_of kind - 1)) ≤ length reply.old }
     ensures value { result ≡ place + 2 * (length part.now / size_of kind * (size_of kind - 1)) }

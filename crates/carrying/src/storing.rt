@@ -42,7 +42,7 @@ fn receive(target: Target, body: &[u8], player: Player, held: &mut Held) -> bool
     }
 }
 
-// The bytes of half bytes, with a 0 behind those of each program.
+// The bytes of half bytes, with a 0 behind those of each program. Their places are counted, as in `split_short`.
 fn join_short(halves: &[u8], kind: Kind, part: &mut [u8])
     requires bytes { length part.old ≡ length part.old / size_of kind * size_of kind }
     requires whole { length halves.now ≡ 2 * (length part.old / size_of kind * (size_of kind - 1)) }

@@ -27,6 +27,8 @@ impl Control {
     }
 }
 
+// Byte by byte: `from_le_bytes` and `to_le_bytes` are of two or four bytes, and a field may have three.
+
 // A byte as a wide number.
 fn byte_at(edit: &[u8], at: usize) -> u32
     requires { at < length edit.now }

@@ -137,6 +137,7 @@ impl Control {
     }
 
     // Byte 46 selects.
+    #[tactic(auto, using(crate::proofs::Rows::has_46))]
     fn is_selected(self, edit: &[u8]) -> Result<(), Refusal>
         requires { size_of self.kind ≤ length edit.now }
         ensures { result ≡ tested (selected_test self.row edit.now ∷ []) Err (Ok tt) }

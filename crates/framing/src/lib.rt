@@ -35,7 +35,8 @@ pub fn fresh() -> Receiver
     Receiver::default()
 }
 
-// What a byte did, and what it leaves to do for whoever has the receive buffer.
+// What a byte did, and what it leaves to do for whoever has the receive buffer. `Nothing` is an event among others, and the
+// second data byte 0 where there is none is document 01's (`Message` of sockets/specs/Framer): so neither is an Option.
 #[derive(Clone, Copy, Debug, PartialEq, Eq)]
 pub enum Event {
     Nothing,

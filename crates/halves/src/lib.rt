@@ -48,6 +48,7 @@ pub fn split_into(bytes: &[u8], halves: &mut [u8]) -> Result<(), MoveError>
     Ok(())
 }
 
+// By places: of a chunk that `chunks_exact_mut` lends, a caller learns no more than its length.
 fn split_all(bytes: &[u8], halves: &mut [u8])
     requires { length halves.old ≡ 2 * length bytes.now }
     ensures { halves.new ≡ split bytes.now }
@@ -80,6 +81,7 @@ pub fn join_any(halves: &[u8], bytes: &mut [u8]) -> Result<(), MoveError>
     Err(MoveError::Misfit)
 }
 
+// The same back.
 #[tactic(auto, using(crate::proofs::Turns::join_turn))]
 fn join_all(halves: &[u8], bytes: &mut [u8])
     requires { length halves.now ≡ 2 * length bytes.old }

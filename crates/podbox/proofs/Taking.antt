@@ -50,8 +50,8 @@ at_event kind (Channel status first second) below within = tt
 pub some_stored : (kind : Kind) → 0 < limit kind
 some_stored kind = omega (arith, (longest_bounds kind).0)
 
-pub step-within : (kind : Kind) (r : Receiver) (byte : ℕ) → sound_of (limit kind) r ≡ true → Within kind (step_of (limit kind) r byte).event
-step-within kind r byte sound =
+pub step_within : (kind : Kind) (r : Receiver) (byte : ℕ) → sound_of (limit kind) r ≡ true → Within kind (step_of (limit kind) r byte).event
+step_within kind r byte sound =
     at_event kind (step_of (limit kind) r byte).event
     (λ place. collects_below (limit kind) (some_stored kind) r sound byte place)
     (λ count e. (finishes_within (limit kind) (some_stored kind) r sound byte count e).1)

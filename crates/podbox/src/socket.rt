@@ -77,7 +77,7 @@ fn are_largest(memory: usize, receive: usize, reply: usize) -> bool
 }
 
 // 32, then the byte is taken.
-#[tactic(auto, unfolding(crate::specs::Private::ready_does), using(ground::proofs::Tests::tests))]
+#[tactic(auto, unfolding(crate::specs::Private::ready_does), using(ground::proofs::Tests::tests, crate::proofs::Taking::step_within))]
 fn take_ready(
     receiver: &mut Receiver,
     player: Player,

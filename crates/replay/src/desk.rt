@@ -1,107 +1,104 @@
-// What is kept from command to command, beside the buffers.
-use crate::buffers::Lent;
-use crate::script::Command;
-use crate::{buffers, receiver, script};
+// What the calls are lent and told, kept from command to command.
+use crate::lent::Lent;
+use crate::receiver;
+use crate::script::Part;
 use framing::Receiver;
+use std::alloc::{AllocError, Global};
 use sysex::Settings;
 
-#[derive(Clone, Copy)]
+// Each buffer is longer than a call of any kind needs.
+const MEMORY: usize = 3100;
+
+const MARKS: usize = 40;
+
+// Of a receive buffer and of the reply buffer.
+const SIZE: usize = 5800;
+
+#[derive(Drop)]
+pub(crate) struct Socket {
+    pub(crate) receiver: Receiver,
+    pub(crate) receive: Lent,
+}
+
+#[derive(Drop)]
 pub(crate) struct Desk {
-    // The message's length; one above its buffer's is taken as that.
-    pub(crate) length: u16,
-    // The kind's number, of a kind or not.
+    // The number of a kind, or of none.
     pub(crate) kind: u32,
-    // The player's number, of a player or not.
+    // The number of a player, or of none.
     pub(crate) player: u32,
     pub(crate) settings: Settings,
-    pub(crate) lent: Lent,
-    pub(crate) receiver0: Receiver,
-    pub(crate) receiver1: Receiver,
+    pub(crate) memory: Lent,
+    pub(crate) marks: Lent,
+    pub(crate) sockets: [Socket; 2],
+    pub(crate) reply: Lent,
+    // How many bytes of memory the screen is lent as the programs, and from which place on as the own buffer.
+    pub(crate) programs: u16,
+    pub(crate) own: u16,
     pub(crate) controller: u32,
     // How many calls there were.
     pub(crate) calls: u64,
 }
 
-pub(crate) fn fresh() -> Desk {
-    Desk {
-        length: 0,
-        kind: kinds::POD,
-        player: 0,
-        settings: podbox::FRESH_SETTINGS,
-        lent: buffers::NEEDED,
-        receiver0: framing::fresh(),
-        receiver1: framing::fresh(),
-        controller: 0,
-        calls: 0,
+impl Socket {
+    fn fresh(alloc: Global) -> Result<Socket, AllocError> {
+        Ok(Socket {
+            receiver: framing::fresh(),
+            receive: Lent::new(alloc, 0, SIZE, 5193)?,
+        })
     }
 }
 
-// The desk after a command that sets something of it; any other command leaves it.
-pub(crate) fn changed(before: Desk, command: Command) -> Desk {
-    let mut desk = before;
-    let op = command.op;
-    match op {
-        b'L' => desk.length = script::number(command),
-        b'T' => desk.kind = script::wide(command),
-        b'O' => desk.player = script::wide(command),
-        b'C' => {
-            desk.settings.channel = command.a;
-            desk.settings.omni = command.b;
+impl Desk {
+    // As much is lent as a call of a POD needs: what second/REPLAY.md says is lent at first.
+    pub(crate) fn fresh(alloc: Global) -> Result<Desk, AllocError> {
+        Ok(Desk {
+            kind: kinds::POD,
+            player: 0,
+            settings: podbox::FRESH_SETTINGS,
+            memory: Lent::new(alloc, 0, MEMORY, 2736)?,
+            marks: Lent::new(alloc, 1, MARKS, 38)?,
+            sockets: [Socket::fresh(alloc)?, Socket::fresh(alloc)?],
+            reply: Lent::new(alloc, 0, SIZE, 5193)?,
+            programs: 2592,
+            own: 2592,
+            controller: 0,
+            calls: 0,
+        })
+    }
+
+    // Any number above 0 is that of socket 1.
+    pub(crate) fn socket(&mut self, number: u32) -> &mut Socket {
+        &mut self.sockets[number.min(1) as usize]
+    }
+
+    pub(crate) fn lend(&mut self, part: Part, count: u16) {
+        match part {
+            Part::Memory => self.memory.lend(count),
+            Part::Receive0 => self.sockets[0].receive.lend(count),
+            Part::Receive1 => self.sockets[1].receive.lend(count),
+            Part::Reply => self.reply.lend(count),
+            Part::Marks => self.marks.lend(count),
+            Part::Programs => self.programs = count,
+            Part::Own => self.own = count,
         }
-        b'R' => desk.settings = revised(desk.settings, command.a % 4, command.v),
-        b'Z' => desk.lent = buffers::lent_by(desk.lent, command),
-        b'E' => desk = with_part(desk, command),
-        b'N' => desk.controller = lengthened(desk.controller, script::number(command)),
-        _ => {}
     }
-    desk
-}
 
-fn revised(before: Settings, place: u8, byte: u8) -> Settings {
-    let mut settings = before;
-    match place {
-        0 => settings.revision0 = byte,
-        1 => settings.revision1 = byte,
-        2 => settings.revision2 = byte,
-        _ => settings.revision3 = byte,
+    pub(crate) fn set_revision(&mut self, place: u8, byte: u8) {
+        match place % 4 {
+            0 => self.settings.revision0 = byte,
+            1 => self.settings.revision1 = byte,
+            2 => self.settings.revision2 = byte,
+            _ => self.settings.revision3 = byte,
+        }
     }
-    settings
-}
 
-// The part of a receiver that E sets.
-fn with_part(desk: Desk, command: Command) -> Desk {
-    let socket = command.b as u32 % 2;
-    let before = receiver_of(desk, socket);
-    let after = receiver::changed(before, command.a % 8, command.v);
-    with_receiver(desk, socket, after)
-}
-
-// Two bytes more at the bottom of a controller's number; what stood above its lowest two is lost.
-fn lengthened(controller: u32, low: u16) -> u32 {
-    65536 * (controller % 65536) + low as u32
-}
-
-// Socket 0 has receiver 0; any other number is lent receiver 1.
-pub(crate) fn receiver_of(desk: Desk, socket: u32) -> Receiver {
-    if socket == 0 {
-        return desk.receiver0;
+    pub(crate) fn set_receiver(&mut self, socket: u8, part: u8, byte: u8) {
+        let socket = self.socket(u32::from(socket % 2));
+        socket.receiver = receiver::with_part(socket.receiver, part, byte);
     }
-    desk.receiver1
-}
 
-pub(crate) fn with_receiver(before: Desk, socket: u32, receiver: Receiver) -> Desk {
-    let mut desk = before;
-    if socket == 0 {
-        desk.receiver0 = receiver;
-    } else {
-        desk.receiver1 = receiver;
+    // Two bytes more at the bottom of the controller's number; what stood above its lowest two is lost.
+    pub(crate) fn lengthen_controller(&mut self, low: u16) {
+        self.controller = self.controller % 65536 * 65536 + u32::from(low);
     }
-    desk
-}
-
-// One call more. The count would begin again after 2^64 calls, which no run reaches.
-pub(crate) fn counted(before: Desk) -> Desk {
-    let mut desk = before;
-    desk.calls = desk.calls.wrapping_add(1);
-    desk
 }

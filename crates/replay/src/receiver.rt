@@ -1,27 +1,37 @@
-// A receiver's parts, set one by one, and all of them as one number.
+// A receiver's parts, each a byte: as E sets them, and all of them as one number.
 use framing::Receiver;
 
-// The receiver with a byte as one of its parts; there is no part 7.
-pub(crate) fn changed(before: Receiver, part: u8, byte: u8) -> Receiver {
-    let mut receiver = before;
-    match part {
-        0 => receiver.stored = receiver.stored / 256 * 256 + byte as u16,
-        1 => receiver.stored = receiver.stored % 256 + 256 * byte as u16,
-        2 => receiver.inside = byte,
-        3 => receiver.over = byte,
-        4 => receiver.running = byte,
-        5 => receiver.held = byte,
-        6 => receiver.waiting = byte,
-        _ => {}
+// The two bytes of stored, then the others; there is no part 7.
+fn parts(receiver: Receiver) -> [u8; 8] {
+    let [low, high] = receiver.stored.to_le_bytes();
+    [
+        low,
+        high,
+        receiver.inside,
+        receiver.over,
+        receiver.running,
+        receiver.held,
+        receiver.waiting,
+        0,
+    ]
+}
+
+// The receiver with a byte as one of its parts.
+pub(crate) fn with_part(receiver: Receiver, part: u8, byte: u8) -> Receiver {
+    let mut parts = parts(receiver);
+    parts[part as usize % 8] = byte;
+    let [low, high, inside, over, running, held, waiting, _] = parts;
+    Receiver {
+        stored: u16::from_le_bytes([low, high]),
+        inside,
+        over,
+        running,
+        held,
+        waiting,
     }
-    receiver
 }
 
 // Part above part: stored at the bottom, waiting at the top.
 pub(crate) fn number(receiver: Receiver) -> u64 {
-    let held = receiver.held as u64 + 256 * receiver.waiting as u64;
-    let running = receiver.running as u64 + 256 * held;
-    let over = receiver.over as u64 + 256 * running;
-    let inside = receiver.inside as u64 + 256 * over;
-    receiver.stored as u64 + 65536 * inside
+    u64::from_le_bytes(parts(receiver))
 }

@@ -21,6 +21,7 @@ fn joined_once(tally: Tally, high: u8, low: u8) -> Tally {
     let mut byte = [0];
     match halves::join_into(&[high, low], &mut byte) {
         Ok(()) => tally.counted().mixed(u32::from(byte[0])),
+        // 16, as a refusal is mixed in.
         Err(MoveError::Above) => tally.mixed(65536 + 16),
         // There are two half bytes for the one byte.
         Err(MoveError::Misfit) => tally,

@@ -27,7 +27,7 @@ impl Tally {
         }
     }
 
-    // A value is counted and mixed in. A refusal is mixed in above every value.
+    // A value is counted and mixed in. A refusal is mixed in by its number, above every value: so the lines are printed.
     pub(crate) fn noted(self, reading: Result<u16, Refusal>) -> Tally {
         match reading {
             Ok(value) => self.counted().mixed(value as u32),

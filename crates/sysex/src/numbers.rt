@@ -1,4 +1,5 @@
-// Answers, orders and checks as document 01's numbers.
+// Answers, orders and checks as document 01's numbers. Of a `Result` these are functions and no `From`, for neither type is
+// this crate's; `check_number` is promised beside `From<Check>`.
 ghost use Rattle.std.specs.Prelude.{◌≡◌};
 ghost use Rattle.sysex.specs.Numbers.{answer_number, answer_length, check_number, order_number};
 
