@@ -20,6 +20,7 @@ pub type Memory = [u8; MEMORY];
 
 pub type Buffer = [u8; LONGEST];
 
+// A constant, since `Settings` is a type of sysex, where `Default` would have to stand.
 pub const FRESH_SETTINGS: Settings = Settings {
     channel: 0,
     omni: 0,

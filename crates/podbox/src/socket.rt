@@ -18,6 +18,7 @@ use programs::{Held, MARKS, Player};
 use sysex::{Answer, Answered, Settings};
 
 // 32 for the kind, 30, 31 and 32, then the byte is taken: a call that is turned away leaves the receiver as it was.
+// Numbers and slices side by side, as C lends them: `take_of` is over any of them.
 #[tactic(auto, unfolding(sockets::specs::Promise::byte_of, kinds::specs::Kinds::kind_from, programs::specs::Memory::player_from), using(ground::proofs::Tests::tests))]
 pub fn take_byte(
     receiver: &mut Receiver,
