@@ -18,6 +18,7 @@ use Rattle.ground.specs.Tests.{Test, tested, AllHold}
 use Rattle.ground.proofs.InOrder.{tested_cases}
 use Rattle.ground.proofs.Tests.{both}
 use Rattle.programs.specs.Held.{Held}
+use Rattle.programs.proofs.Players.{edit-inside}
 use Rattle.framing.specs.declared.Receiver.{Receiver}
 use Rattle.framing.specs.declared.Event.{Event}
 use Rattle.framing.specs.declared.Event.TheVariants.{Nothing, Collect, Cut, CutAndOpen, TooLong, SysEx, Channel}
@@ -33,6 +34,9 @@ use Rattle.podbox.specs.Messages.{is_program_change}
 use Rattle.podbox.specs.Box.{limit, socket_player, box_rules}
 use Rattle.podbox.specs.Private.{Within, socket_for, passes, length_tests, ready_does, largest_memory, largest_buffer, are_largest}
 
+-- a program, the longest message, and where an edit buffer stands, of any kind
+pub ruleset bounds = (size-bounds, longest_bounds, edit-inside)
+
 at_event : (kind : Kind) (event : Event) → ((place : ℕ) → event ≡ Collect place → place < limit kind) → ((count : ℕ) → event ≡ SysEx count → count ≤ limit kind) → Within kind event
 at_event kind Nothing below within = tt
 at_event kind (Collect place) below within = below place refl
@@ -46,8 +50,8 @@ at_event kind (Channel status first second) below within = tt
 pub some_stored : (kind : Kind) → 0 < limit kind
 some_stored kind = omega (arith, (longest_bounds kind).0)
 
-pub step-within : (kind : Kind) (r : Receiver) (byte : ℕ) → sound_of (limit kind) r ≡ true → Within kind (step_of (limit kind) r byte).event
-step-within kind r byte sound =
+pub step_within : (kind : Kind) (r : Receiver) (byte : ℕ) → sound_of (limit kind) r ≡ true → Within kind (step_of (limit kind) r byte).event
+step_within kind r byte sound =
     at_event kind (step_of (limit kind) r byte).event
     (λ place. collects_below (limit kind) (some_stored kind) r sound byte place)
     (λ count e. (finishes_within (limit kind) (some_stored kind) r sound byte count e).1)

@@ -13,8 +13,8 @@ use sysex::{Answer, Answered, Settings};
 // The most moves that a list has.
 const MOST_MOVES: usize = 256;
 
-// What a list of so many moves is answered, by the lengths of memory and of the buffer for its numbers: whoever asks need
-// not lend them, as `list_answer` of specs/Box has it.
+// What a list of so many moves is answered, by the lengths of memory and of the buffer for its numbers.
+// Numbers and lengths, and no slices: `list_answer` of specs/Box is over any of them, and nothing is lent.
 pub fn list_answer(
     count: usize,
     player: u32,

@@ -12,6 +12,7 @@ use programs::Player;
 use sysex::{Answered, Check, Settings};
 
 // 32 for the kind, 30, 31 and 32, 10 and 11, then what its body asks for.
+// Numbers and slices side by side, as C lends them: `whole_of` is over any of them.
 #[tactic(auto, unfolding(sockets::specs::Promise::direct_of, kinds::specs::Kinds::kind_from, programs::specs::Memory::player_from, sysex::specs::Judging::judge_of, carrying::specs::Carrying::order_does, carrying::specs::Carrying::carry_of, crate::specs::Whole::message_order, crate::specs::Private::body_in), using(ground::proofs::Tests::tests, crate::proofs::Taking::sender))]
 pub fn whole_message(
     message: &[u8],

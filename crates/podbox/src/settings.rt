@@ -20,6 +20,7 @@ pub type Memory = [u8; MEMORY];
 
 pub type Buffer = [u8; LONGEST];
 
+// A constant, since `Settings` is a type of sysex, where `Default` would have to stand.
 pub const FRESH_SETTINGS: Settings = Settings {
     channel: 0,
     omni: 0,
@@ -30,7 +31,6 @@ pub const FRESH_SETTINGS: Settings = Settings {
 };
 
 // The most bytes of a SysEx that are stored: all but its F7.
-#[tactic(auto, using(sysex::proofs::Lengths::longest_bounds))]
 pub(crate) fn limit(kind: Kind) -> u16
     ensures { result ≡ limit kind }
 {

@@ -18,6 +18,7 @@ use programs::{Held, MARKS, Player};
 use sysex::{Answer, Answered, Settings};
 
 // 32 for the kind, 30, 31 and 32, then the byte is taken: a call that is turned away leaves the receiver as it was.
+// Numbers and slices side by side, as C lends them: `take_of` is over any of them.
 #[tactic(auto, unfolding(sockets::specs::Promise::byte_of, kinds::specs::Kinds::kind_from, programs::specs::Memory::player_from), using(ground::proofs::Tests::tests))]
 pub fn take_byte(
     receiver: &mut Receiver,
@@ -77,7 +78,7 @@ fn are_largest(memory: usize, receive: usize, reply: usize) -> bool
 }
 
 // 32, then the byte is taken.
-#[tactic(auto, unfolding(crate::specs::Private::ready_does), using(ground::proofs::Tests::tests))]
+#[tactic(auto, unfolding(crate::specs::Private::ready_does), using(ground::proofs::Tests::tests, crate::proofs::Taking::step_within))]
 fn take_ready(
     receiver: &mut Receiver,
     player: Player,
@@ -112,7 +113,7 @@ fn is_ready(receiver: Receiver, settings: Settings, held: &Held) -> Result<(), R
 }
 
 // What the byte did, carried on to the buffers.
-#[tactic(auto, unfolding(sockets::specs::Promise::step_does, crate::specs::Messages::message_does), using(crate::proofs::Taking::own_socket))]
+#[tactic(auto, unfolding(sockets::specs::Promise::step_does, crate::specs::Messages::message_does, carrying::specs::Carrying::carry_of), using(ground::proofs::Tests::tests, crate::proofs::Taking::own_socket))]
 fn act(
     event: Event,
     player: Player,

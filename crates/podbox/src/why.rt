@@ -7,7 +7,7 @@ use kinds::Kind;
 use sysex::{Check, Order};
 
 // What becomes of a message that a fresh box of this kind is handed.
-#[tactic(auto, unfolding(sysex::specs::Judging::judge_of, crate::specs::Settings::fresh_settings, crate::specs::Whole::message_order, crate::specs::Private::body_in), using(ground::proofs::Tests::tests))]
+#[tactic(auto, unfolding(sysex::specs::Judging::judge_of, crate::specs::Settings::fresh_settings, crate::specs::Whole::message_order, crate::specs::Private::body_in), using(ground::proofs::Tests::tests, crate::proofs::Taking::bounds))]
 pub fn reason(message: &[u8], kind: Kind) -> Result<Order, Check>
     ensures { result ≡ reason_of kind message.now }
 {

@@ -83,6 +83,7 @@ impl Desk {
         }
     }
 
+    // A match and no array: Settings has a field for each, as they come from C.
     pub(crate) fn set_revision(&mut self, place: u8, byte: u8) {
         match place % 4 {
             0 => self.settings.revision0 = byte,
