@@ -16,10 +16,9 @@ use Rattle.kinds.specs.Kinds.{size_of, highest_model}
 use Rattle.kinds.proofs.AnyKind.{each_kind, at_kind}
 use Rattle.controls.specs.declared.Row.{Row}
 use Rattle.controls.specs.declared.Effect.{Effect}
-use Rattle.controls.specs.declared.Effect.TheVariants.{Swell, Compressor, Chorus, Rotary, Tremolo}
 use Rattle.controls.specs.Formulas.{number_by, number_for}
 use Rattle.controls.specs.Scaling.{goes_by_v}
-use Rattle.controls.specs.Table.{Entry, Line, find, unlisted, table, if_listed, same_effect, if_so, standing, rows, row_of}
+use Rattle.controls.specs.Table.{Entry, Line, find, unlisted, table, if_listed, if_so, standing, rows, row_of}
 use Rattle.controls.specs.Meaning.{Outside}
 use Rattle.controls.specs.Private.{least_of, takes}
 use Rattle.controls.proofs.Bytes.{above}
@@ -165,17 +164,6 @@ listed r s =
     by (λ (x : Option Row). x ≡ Some s → (s ≡ r) × (1 ≤ s.width)) (eqb r.width 0) None (Some r)
     (λ t e. cc)
     (λ t e. let is : s ≡ r = cc in let some = eqb-false r.width 0 t in rw is (refl, omega arith))
-
-pub unlisted_none : (r : Row) → if_listed r ≡ None → r.width ≡ 0
-unlisted_none r = by (λ (x : Option Row). x ≡ None → r.width ≡ 0) (eqb r.width 0) None (Some r) (λ t e. eqb-true r.width 0 t) (λ t e. cc)
-
--- two effects are one, or they are not
-pub same_is : (effect : Effect) (other : Option Effect) → Some effect ≡ other → same_effect (Some effect) other ≡ true
-same_is Swell other is = rw (← is)
-same_is Compressor other is = rw (← is)
-same_is Chorus other is = rw (← is)
-same_is Rotary other is = rw (← is)
-same_is Tremolo other is = rw (← is)
 
 -- an edit buffer of any kind has byte 46
 pub has_46 : (kind : Kind) → 46 < size_of kind

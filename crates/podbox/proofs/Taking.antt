@@ -9,10 +9,10 @@ use Rattle.kinds.specs.Kinds.{takes_program_change, kind_from, kind_of, kind_tes
 use Rattle.kinds.proofs.AnyKind.{size-bounds}
 use Rattle.programs.specs.declared.Player.{Player}
 use Rattle.programs.specs.declared.Player.TheVariants.{One, Two}
-use Rattle.programs.specs.Memory.{program_count, player_of, player_from, player_test, memory_size, mark_count}
+use Rattle.programs.specs.Memory.{program_count, player_of, player_from, player_test, memory_size}
 use lib.Dec.{eqb, leb}
 use lib.ListN.{length}
-use borrow.Author.Tests.{leb-true, le-leb, ne_eqb}
+use borrow.Author.Tests.{leb-true, ne_eqb}
 use Rattle.std.specs.Prelude.{Result, Ok, Err}
 use Rattle.ground.specs.Tests.{Test, tested, AllHold}
 use Rattle.ground.proofs.InOrder.{tested_cases}
