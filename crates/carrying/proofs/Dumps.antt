@@ -6,7 +6,7 @@ use mathlib.Core.Path.{◌≡◌, ap, ◌∙◌}
 use native.Mathlib.Omega.{arith}
 use lib.ListN.{length, take, drop, length-drop}
 use borrow.Author.Tests.{ne_eqb}
-use Rattle.ground.proofs.Lists.{to_end}
+use Rattle.std.proofs.lemmas.List.{take_rest}
 use Rattle.halves.specs.HalfBytes.{all_halves}
 use Rattle.halves.proofs.Laws.{split_halves}
 use Rattle.kinds.specs.declared.Kind.{Kind}
@@ -24,7 +24,7 @@ module _ (kind : Kind) (t : Target) (version : ℕ) (body : List ℕ) (v : versi
   halves = take (length body - (version + 1)) (drop (version + 1) body)
 
   pub halves_are : halves ≡ drop (data_place (type_for t)) body
-  halves_are = to_end (version + 1) body ∙ ap (λ (n : ℕ). drop (n + 1) body) v
+  halves_are = take_rest body (version + 1) ∙ ap (λ (n : ℕ). drop (n + 1) body) v
 
   module _ (bytes : List ℕ) (x : IsDump kind t (is_long kind t body) bytes body) where
     data_count : length body ≡ data_place (type_for t) + 2 * sent_for kind (is_long kind t body) t

@@ -41,7 +41,8 @@ pub(crate) fn identify(cc: u8, kind: Kind, settings: Settings, reply: &mut [u8])
     ]);
 }
 
-// Answers a request by the dump of what it names, in the length that its marks say. Returns its length.
+// Answers a request by the dump of what it names, in the length that its marks say. Returns its length. (`There` is asked
+// three times in this crate: a type for it would be made and taken apart where the judge's `Target` does.)
 pub(crate) fn answer(target: Target, player: Player, held: &Held, reply: &mut [u8]) -> u16
     requires there { There target }
     requires room { longest held.now.kind ≤ length reply.old }
@@ -57,7 +58,8 @@ pub(crate) fn answer(target: Target, player: Player, held: &Held, reply: &mut [u
     end as u16 + 1
 }
 
-// A dump up to its data: header, opcode, type, the program where there is one, version 0. Returns the data's place.
+// A dump up to its data: header, opcode, type, the program where there is one, version 0. Returns the data's place: what
+// stands behind is written from there.
 fn begin(target: Target, kind: Kind, reply: &mut [u8]) -> usize
     requires { 9 ≤ length reply.old }
     ensures value { result ≡ data_place (type_for target) }

@@ -27,7 +27,8 @@ impl Control {
     }
 }
 
-// Byte by byte: `from_le_bytes` and `to_le_bytes` are of two or four bytes, and a field may have three.
+// Byte by byte, since a field has one, two or three: `from_le_bytes` would want an array filled up with zeros, and of
+// `to_le_bytes` a copy of as many as the row says.
 
 // A byte as a wide number.
 fn byte_at(edit: &[u8], at: usize) -> u32

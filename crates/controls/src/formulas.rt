@@ -10,7 +10,8 @@ use crate::control::Control;
 use ground::Refusal;
 
 impl Control {
-    // The number for v. The formulas of m need a stored number: they give none here.
+    // The number for v. The formulas of m need a stored number: they give none here. (A type for a data byte would be taken
+    // apart again in each function that asks v ≤ 127.)
     pub(crate) fn number(self, v: u16) -> u16
         requires { v ≤ 127 }
         ensures { result ≡ number_for self.row v }

@@ -118,6 +118,7 @@ impl Control {
         }
     }
 
+    // The buffer is handed down beside the controller: a struct of both would be two, for `show_back` has it to read alone.
     pub(crate) fn apply(self, value: u32, edit: &mut [u8]) -> Result<(), Refusal>
         requires { size_of self.kind ≤ length edit.old }
         ensures { changed result edit.new ≡ apply_row self.kind self.row value edit.old }

@@ -27,6 +27,7 @@ pub(crate) fn make_moves(
         memory.len(),
         numbers.len(),
     )?;
+    // Both are known: `list_answer` refuses any other number.
     let player = programs::player_of(player);
     let kind = kinds::kind_of(kind);
     for (place, one) in moves.iter().enumerate() {

@@ -47,6 +47,7 @@ tested_exactly {Name} {A} ts failed x name other one =
     (λ _ e. absurd (other e))
     (λ first f e. subst (FirstToFail ts) (one first name e) f)
 
+-- (the library has this law, but for itself alone)
 map-cond : {A B : Type 0} (f : A → B) (t : Bool) (x y : A) → f (cond t x y) ≡ cond t (f x) (f y)
 map-cond f true x y = refl
 map-cond f false x y = refl

@@ -17,14 +17,14 @@ pub enum Kind {
 // The bytes of the largest program of any kind: a buffer that serves each of them is as long as this asks.
 pub const LARGEST: usize = 80;
 
-// The numbers by which a call names its kind.
+// The numbers by which a call names its kind: C hands over numbers.
 pub const POD: u32 = 0;
 
 pub const BASS_POD: u32 = 1;
 
 pub const POD_PRO: u32 = 2;
 
-// Whether a number is that of a kind.
+// Whether a number is that of a kind. It and `kind_of` cannot fail, and stand beside `try_from`, which can.
 pub fn is_kind(number: u32) -> bool
     ensures { result ≡ is_kind number }
 {

@@ -48,7 +48,7 @@ above_spoils n i [] h = absurd (omega arith)
 above_spoils n zero (x ∷ xs) h = rw (lt-leb x n h)
 above_spoils n (suc i) (x ∷ xs) h = rw (above_spoils n i xs h) (and-false (leb x n))
 
--- where the next program begins
+-- where the next program begins (the library has this law, but for itself alone)
 next : (program per : ℕ) → (program + 1) * per ≡ program * per + per
 next program per = omega (arith, add-mul program 1 per)
 

@@ -1,5 +1,5 @@
 // All that the box holds from call to call but for what belongs to one socket, as a call lends it: memory, and a mark for
-// each program and edit buffer. Both are as long as the kind asks; more may be lent.
+// each program and edit buffer. Both are as long as the kind asks; more may be lent. They are two buffers, for C keeps them.
 ghost use Rattle.std.specs.Prelude.{◌≤◌, length};
 ghost use Rattle.programs.specs.Memory.{memory_size, mark_count};
 

@@ -24,7 +24,8 @@ pub enum Player {
     Two,
 }
 
-// Whether a number is that of a player, or of the socket that is the player's.
+// Whether a number is that of a player, or of the socket that is the player's. It and `player_of` cannot fail, and stand
+// beside `try_from`, which can.
 pub fn is_player(number: u32) -> bool
     ensures { result ≡ is_player number }
 {
@@ -59,7 +60,8 @@ impl TryFrom<u32> for Player {
     }
 }
 
-// The bytes of memory: the programs, and the two edit buffers behind them.
+// The bytes of memory: the programs, and the two edit buffers behind them. Who is lent memory asks for them in a line of
+// its own: what a short one is answered stands there among other tests.
 pub fn memory_size(kind: Kind) -> usize
     ensures { result ≡ memory_size kind }
 {

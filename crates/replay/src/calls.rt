@@ -99,7 +99,7 @@ impl Desk {
         Ok(answer)
     }
 
-    // What scaling the controller gives for a value.
+    // What scaling the controller gives for a value. It and the next two differ in what they call and hand over.
     pub(crate) fn scale(&mut self, value: u32, out: &mut impl Write) -> io::Result<()> {
         let call = self.count();
         let number = costerbloom::costerbloom_scale(self.controller, value, self.kind);

@@ -83,7 +83,7 @@ impl fmt::Display for Digits<'_> {
     }
 }
 
-// Each byte times its place, counted from 1, summed.
+// Each byte times its place, counted from 1, summed; the sweep's is its own, of 32 bits, as its lines are.
 fn digest(bytes: &[u8]) -> u64 {
     let places = (1u64..).zip(bytes);
     places.fold(0u64, |sum, (place, byte)| {

@@ -9,7 +9,7 @@ use ground::Refusal;
 use kinds::Kind;
 use programs::{PROGRAMS, Player};
 
-// The bytes in the memory that they already occupy. `own` is 0 for the shared program, and any other number for the
+// The six are what C hands over. The bytes in the memory that they already occupy. `own` is 0 for the shared program, and any other number for the
 // player's own buffer.
 pub fn screen<'a>(
     program: u32,

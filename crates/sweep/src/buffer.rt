@@ -39,7 +39,7 @@ fn weight(place: u32, byte: u8) -> u32
     (place + 1) * byte as u32
 }
 
-// A number's bytes, lowest first, from a place on.
+// A number's bytes, lowest first, from a place on: as many as the row says, which `to_le_bytes` would want bounded.
 pub(crate) fn put(edit: &mut Edit, place: usize, width: usize, number: u32)
     requires { place + width ≤ largest }
 {

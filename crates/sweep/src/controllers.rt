@@ -5,10 +5,13 @@ use crate::tally::Tally;
 use ground::Refusal;
 use kinds::Kind;
 
+// "3 controller applied": so the lines have it.
+const APPLIED: u32 = 3;
+
 // The values that are applied: 0 to 127, and one past them.
 const VALUES: u32 = 129;
 
-// A controller of a kind.
+// A controller of a kind. Its sweeps are loops: a step hands on what it counts, as a fold would, and has more lines.
 #[derive(Clone, Copy)]
 pub(crate) struct Swept {
     pub(crate) controller: u32,
@@ -40,7 +43,7 @@ impl Swept {
     fn applied_once(self, tally: Tally, value: u32, setting: u8) -> Tally {
         let mut edit = buffer::made(value, setting);
         let answered = match controls::apply(self.controller, value, self.kind, &mut edit) {
-            Ok(()) => tally.counted().mixed(3),
+            Ok(()) => tally.counted().mixed(APPLIED),
             Err(refusal) => tally.mixed(u8::from(refusal) as u32),
         };
         answered.mixed(buffer::weighed(&edit))

@@ -1,5 +1,6 @@
 // The sweeps over bytes and half bytes.
 use crate::tally::Tally;
+use ground::Refusal;
 use halves::MoveError;
 
 pub(crate) fn joined_and_split() -> Tally {
@@ -21,8 +22,7 @@ fn joined_once(tally: Tally, high: u8, low: u8) -> Tally {
     let mut byte = [0];
     match halves::join_into(&[high, low], &mut byte) {
         Ok(()) => tally.counted().mixed(u32::from(byte[0])),
-        // 16, as a refusal is mixed in.
-        Err(MoveError::Above) => tally.mixed(65536 + 16),
+        Err(MoveError::Above) => tally.noted(Err(Refusal::NoHalfByte)),
         // There are two half bytes for the one byte.
         Err(MoveError::Misfit) => tally,
     }

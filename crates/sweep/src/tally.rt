@@ -1,10 +1,18 @@
 // What is counted and digested over a run of answers.
 use ground::Refusal;
+use std::fmt;
 
 #[derive(Clone, Copy, Debug, Default, PartialEq, Eq)]
 pub(crate) struct Tally {
     pub(crate) count: u32,
     pub(crate) digest: u64,
+}
+
+// Its two fields of a line.
+impl fmt::Display for Tally {
+    fn fmt<W: fmt::Write>(&self, f: &mut fmt::Formatter<W>) -> fmt::Result {
+        write!(f, "\t{}\t{}", self.count, self.digest)
+    }
 }
 
 // A digest is below this.
