@@ -1,16 +1,18 @@
 -- Laws of the formulas' numbers: which rows have those of a column of the sheet, and which the quotients.
 use Prim.Native.Nat.{ℕ, ◌/◌, ◌≤◌}
+use mathlib.Core.Bool.{true}
 use mathlib.Core.Logic.{◌⊎◌, inl, inr}
-use mathlib.Core.Path.{◌≡◌, refl}
+use mathlib.Core.Path.{◌≡◌, refl, sym, ◌∙◌}
 use native.Mathlib.Omega.{arith}
 use lib.ListN.{get_or}
-use borrow.Author.Tests.{le-leb}
+use borrow.Author.Tests.{le-leb, leb-true}
 use Rattle.std.specs.Prelude.{Ok}
 use Rattle.ground.specs.Lists.{column}
 use Rattle.ground.proofs.Computed.{column-at}
 use Rattle.kinds.specs.declared.Kind.{Kind}
 use Rattle.kinds.specs.declared.Kind.TheVariants.{Pod}
 use Rattle.controls.specs.declared.Row.{Row}
+use Rattle.controls.specs.declared.Formula.{Formula}
 use Rattle.controls.specs.declared.Formula.TheVariants.{AsReceived, Quotient, OnSheet, MUpper, MLower}
 use Rattle.controls.specs.declared.Column.{Column}
 use Rattle.controls.specs.declared.Column.TheVariants.{Threshold, Times50, Times256Over104, Times256Over42, Times22Plus100, Times25}
@@ -18,7 +20,7 @@ use Rattle.controls.specs.Formulas.{number_by, number_for}
 use Rattle.controls.specs.Table.{table, row_of}
 use Rattle.controls.specs.Sheet.{column_controller, on_sheet}
 use Rattle.controls.specs.Scaling.{scale_of}
-use Rattle.controls.specs.Private.{sheet_row, least_of}
+use Rattle.controls.specs.Private.{sheet_row, least_of, divisor_of, takes}
 use Rattle.controls.proofs.Rows.{row_sane}
 
 -- Controllers with the same formula have the same number for a value, whatever their kinds.
@@ -47,6 +49,23 @@ quotient r d v is raised = rw (raised, is) (omega arith)
 pub received : (r : Row) (v : ℕ) → r.formula ≡ AsReceived → r.least ≡ least_of r.formula → number_for r v ≡ v
 unfolding number_for number_by
 received r v is raised = rw (raised, is) (omega arith)
+
+-- what a formula divides by is something, where it takes values
+pub divides : (f : Formula) (highest : ℕ) → takes f highest ≡ true → 1 ≤ divisor_of f
+divides AsReceived highest t = omega arith
+divides (Quotient d) highest t = leb-true 1 d t
+divides (OnSheet c) highest t = omega arith
+divides MUpper highest t = omega arith
+divides MLower highest t = omega arith
+
+-- of each formula that is no column's and none of m's the number is a quotient
+pub divided : (r : Row) (f : Formula) (v : ℕ) → f ≡ r.formula → ((c : Column) → f ≡ OnSheet c → ⊥) → (f ≡ MUpper → ⊥) → (f ≡ MLower → ⊥)
+    → r.least ≡ least_of r.formula → number_for r v ≡ v / divisor_of f
+divided r AsReceived v is sheet upper lower raised = let one : v / 1 ≡ v = omega arith in received r v (sym is) raised ∙ sym one
+divided r (Quotient d) v is sheet upper lower raised = quotient r d v (sym is) raised
+divided r (OnSheet c) v is sheet upper lower raised = absurd (sheet c refl)
+divided r MUpper v is sheet upper lower raised = absurd (upper refl)
+divided r MLower v is sheet upper lower raised = absurd (lower refl)
 
 pub none_of_m : (r : Row) (v : ℕ) → (r.formula ≡ MUpper) ⊎ (r.formula ≡ MLower) → r.least ≡ least_of r.formula → number_for r v ≡ 0
 unfolding number_for number_by

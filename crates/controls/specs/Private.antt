@@ -24,6 +24,11 @@ abbrev pub least_of : Formula → ℕ
 least_of (OnSheet column) = (sheet_row column).least
 least_of formula = 0
 
+-- what a formula divides by: a value as received by 1, as is said of each but the quotients
+abbrev pub divisor_of : Formula → ℕ
+divisor_of (Quotient divisor) = divisor
+divisor_of formula = 1
+
 -- a quotient divides by something, and a column has a number for every data byte
 abbrev pub takes : Formula → ℕ → Bool
 takes (Quotient divisor) highest = leb 1 divisor

@@ -156,7 +156,7 @@ rows kind = standing kind table
 
 -- "a controller not in the table or above 127" has a row of no bytes
 abbrev pub unlisted : Row
-unlisted = row_as 0 0 as_received 0 0 none
+unlisted = row_as 0 0 v/64 0 0 none
 
 -- the row of a controller
 unfoldable pub row_of : Kind → ℕ → Row

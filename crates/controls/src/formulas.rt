@@ -3,11 +3,25 @@ ghost use Rattle.std.specs.Prelude.{◌≡◌, ◌≤◌, ◌+◌, ◌/◌, ℕ,
 ghost use Rattle.kinds.specs.Kinds.{size_of};
 ghost use Rattle.controls.specs.Fields.{number_in};
 ghost use Rattle.controls.specs.Formulas.{number_for, m_of, next_for};
+ghost use Rattle.controls.specs.Private.{divisor_of};
 ghost use Rattle.controls.specs.Showing.{smallest, seven_bits, shown_of};
 
 use crate::Formula;
 use crate::control::Control;
 use ground::Refusal;
+
+impl Formula {
+    // What it divides by. A value as received goes the way of the quotients, divided by 1: most controllers go it, and it is
+    // one branch for them.
+    fn divisor(self) -> u8
+        ensures { result ≡ divisor_of self }
+    {
+        match self {
+            Formula::Quotient(divisor) => divisor,
+            _ => 1,
+        }
+    }
+}
 
 impl Control {
     // The number for v. The formulas of m need a stored number: they give none here. (A type for a data byte would be taken
@@ -17,10 +31,9 @@ impl Control {
         ensures { result ≡ number_for self.row v }
     {
         match self.row.formula {
-            Formula::AsReceived => v,
-            Formula::Quotient(divisor) => v / divisor as u16,
             Formula::OnSheet(column) => column.number(v),
             Formula::MUpper | Formula::MLower => 0,
+            formula => v / formula.divisor() as u16,
         }
     }
 
@@ -49,13 +62,11 @@ impl Control {
     pub(crate) fn shown(self, stored: u32) -> Result<u16, Refusal>
         ensures { result ≡ shown_of self.row stored }
     {
-        let m = m_of(stored);
         match self.row.formula {
-            Formula::AsReceived => self.multiple(1, stored),
-            Formula::Quotient(divisor) => self.multiple(divisor, stored),
             Formula::OnSheet(column) => column.first(stored),
-            Formula::MUpper => seven_bits(stored, m, m / 128),
-            Formula::MLower => seven_bits(stored, m, m % 128),
+            Formula::MUpper => seven_bits(stored, m_of(stored) / 128),
+            Formula::MLower => seven_bits(stored, m_of(stored) % 128),
+            formula => self.multiple(formula.divisor(), stored),
         }
     }
 
@@ -84,12 +95,11 @@ fn m_of(stored: u32) -> u32
 
 // Seven bits of m, where the stored number is 6 x m.
 #[tactic(auto, unfolding(crate::specs::Formulas::m_of))]
-fn seven_bits(stored: u32, m: u32, bits: u32) -> Result<u16, Refusal>
-    requires m_value { m ≡ m_of stored }
-    requires bits_bound { bits ≤ 127 }
+fn seven_bits(stored: u32, bits: u32) -> Result<u16, Refusal>
+    requires { bits ≤ 127 }
     ensures { result ≡ seven_bits stored bits }
 {
-    if stored == 6 * m {
+    if stored == 6 * m_of(stored) {
         Ok(bits as u16)
     } else {
         Err(Refusal::NoneGives)

@@ -1,8 +1,9 @@
 // The sheet on the wall: six columns, each with the numbers of one rule for 0 to 127.
-ghost use Rattle.std.specs.Prelude.{◌≡◌, ◌≤◌};
+ghost use Rattle.std.specs.Prelude.{◌≡◌, ◌≤◌, length, true, false};
+ghost use Rattle.std.specs.List.Sorted.{IsPartitionPoint};
 ghost use Rattle.ground.specs.Lists.{column};
 ghost use Rattle.controls.specs.Sheet.{on_sheet};
-ghost use Rattle.controls.specs.Private.{column_shows, is_before};
+ghost use Rattle.controls.specs.Private.{column_shows, falls, is_before};
 
 use crate::Column;
 use ground::Refusal;
@@ -36,22 +37,32 @@ impl Column {
         ensures { result ≡ column_shows self stored }
     {
         let numbers = self.numbers();
-        let at = numbers.partition_point(|number| self.is_before(*number, stored));
+        let at = self.passed(numbers, stored);
         match numbers.get(at) {
             Some(number) if *number as u32 == stored => Ok(at as u16),
             _ => Err(Refusal::NoneGives),
         }
     }
 
-    // Whether a number comes before the stored one in the column: the threshold's falls, the others rise.
+    // How many of its numbers come before the stored one: the threshold's fall, the others rise. The order is asked for once,
+    // and not at each number.
     #[tactic(auto, unfolding(crate::specs::Private::is_before))]
-    fn is_before(self, number: u16, stored: u32) -> bool
-        ensures { result ≡ is_before self number stored }
+    fn passed(self, numbers: &[u16; 128], stored: u32) -> usize
+        requires { numbers.now ≡ column (on_sheet self) 128 }
+        ensures bound { result ≤ length numbers.now }
+        ensures parting { IsPartitionPoint (λ number. is_before self number stored ≡ true) (λ number. is_before self number stored ≡ false) numbers.now result }
     {
-        match self {
-            Column::Threshold => stored < number as u32,
-            _ => (number as u32) < stored,
+        if self.falls() {
+            numbers.partition_point(|number| stored < *number as u32)
+        } else {
+            numbers.partition_point(|number| (*number as u32) < stored)
         }
+    }
+
+    fn falls(self) -> bool
+        ensures { result ≡ falls self }
+    {
+        self == Column::Threshold
     }
 }
 

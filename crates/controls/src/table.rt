@@ -16,24 +16,35 @@ fn row(
     least: u8,
     highest: u8,
     effect: Option<Effect>,
-) -> Option<Row>
-    ensures { result ≡ Some (row_as place width formula least highest effect) }
+) -> Row
+    ensures { result ≡ row_as place width formula least highest effect }
 {
-    Some(Row {
+    Row {
         place,
         width,
         formula,
         least,
         highest,
         effect,
-    })
+    }
 }
 
-// The row of a controller of a kind, if it has one. A POD Pro has two rows of its own, and goes on as a POD.
-#[tactic(auto, unfolding(crate::specs::Table::row_of, crate::specs::Table::table, kinds::specs::Kinds::highest_model), using(ground::proofs::Tests::tests))]
+// The row of a controller of a kind, if it has one.
+#[tactic(auto, using(ground::proofs::Tests::tests))]
 #[inline(always)]
 pub fn row_of(controller: u32, kind: Kind) -> Option<Row>
     ensures { result ≡ if_listed (row_of kind controller) }
+{
+    let row = kind_row(controller, kind);
+    if row.width == 0 { None } else { Some(row) }
+}
+
+// The same, of no bytes where it has none: a row comes back in a register, and an `Option` of one, a byte longer, through
+// memory. A POD Pro has two rows of its own, and goes on as a POD.
+#[tactic(auto, unfolding(crate::specs::Table::row_of, crate::specs::Table::table, kinds::specs::Kinds::highest_model), using(ground::proofs::Tests::tests))]
+#[inline(always)]
+fn kind_row(controller: u32, kind: Kind) -> Row
+    ensures { result ≡ row_of kind controller }
 {
     match kind {
         Kind::Pod => pod_row(controller),
@@ -50,8 +61,8 @@ pub fn row_of(controller: u32, kind: Kind) -> Option<Row>
 // the effect. A call of its own: built into a caller, its arms are jumps, and no table.
 #[tactic(auto, unfolding(crate::specs::Table::row_of, crate::specs::Table::table, kinds::specs::Kinds::highest_model), using(ground::proofs::Tests::tests))]
 #[inline(never)]
-fn pod_row(controller: u32) -> Option<Row>
-    ensures { result ≡ if_listed (row_of Pod controller) }
+fn pod_row(controller: u32) -> Row
+    ensures { result ≡ row_of Pod controller }
 {
     match controller {
         25 => row(0, 1, Quotient(64), 0, 127, None),
@@ -103,14 +114,14 @@ fn pod_row(controller: u32) -> Option<Row>
         57 => row(51, 2, OnSheet(Times22Plus100), 0, 127, Some(Rotary)),
         58 => row(48, 2, OnSheet(Times25), 150, 127, Some(Tremolo)),
         59 => row(50, 1, AsReceived, 0, 127, Some(Tremolo)),
-        _ => None,
+        _ => row(0, 0, Quotient(64), 0, 0, None),
     }
 }
 
 // The ten of a Bass POD.
 #[tactic(auto, unfolding(crate::specs::Table::row_of, crate::specs::Table::table, kinds::specs::Kinds::highest_model), using(ground::proofs::Tests::tests))]
-fn bass_row(controller: u32) -> Option<Row>
-    ensures { result ≡ if_listed (row_of BassPod controller) }
+fn bass_row(controller: u32) -> Row
+    ensures { result ≡ row_of BassPod controller }
 {
     match controller {
         12 => row(3, 1, AsReceived, 0, 15, None),
@@ -123,7 +134,7 @@ fn bass_row(controller: u32) -> Option<Row>
         17 => row(10, 1, Quotient(2), 0, 127, None),
         18 => row(11, 1, Quotient(2), 0, 127, None),
         1 => row(50, 1, Quotient(2), 0, 127, None),
-        _ => None,
+        _ => row(0, 0, Quotient(64), 0, 0, None),
     }
 }
 
