@@ -1,12 +1,14 @@
 -- Laws of the formulas' numbers: which rows have those of a column of the sheet, and which the quotients.
 use Prim.Native.Nat.{ℕ, ◌/◌, ◌≤◌}
 use mathlib.Core.Bool.{true}
+use mathlib.Core.List.{List, [], ◌∷◌}
 use mathlib.Core.Logic.{◌⊎◌, inl, inr}
 use mathlib.Core.Path.{◌≡◌, refl, sym, ◌∙◌}
 use native.Mathlib.Omega.{arith}
 use lib.ListN.{get_or}
 use borrow.Author.Tests.{le-leb, leb-true}
 use Rattle.std.specs.Prelude.{Ok}
+use Rattle.std.proofs.Common.{slice_index_or}
 use Rattle.ground.specs.Lists.{column}
 use Rattle.ground.proofs.Computed.{column-at}
 use Rattle.kinds.specs.declared.Kind.{Kind}
@@ -20,7 +22,7 @@ use Rattle.controls.specs.Formulas.{number_by, number_for}
 use Rattle.controls.specs.Table.{table, row_of}
 use Rattle.controls.specs.Sheet.{column_controller, on_sheet}
 use Rattle.controls.specs.Scaling.{scale_of}
-use Rattle.controls.specs.Private.{sheet_row, least_of, divisor_of, takes}
+use Rattle.controls.specs.Private.{sheet_row, place_of, least_of, divisor_of, takes}
 use Rattle.controls.proofs.Rows.{row_sane}
 
 -- Controllers with the same formula have the same number for a value, whatever their kinds.
@@ -71,6 +73,22 @@ pub none_of_m : (r : Row) (v : ℕ) → (r.formula ≡ MUpper) ⊎ (r.formula �
 unfolding number_for number_by
 none_of_m r v (inl is) raised = rw (raised, is)
 none_of_m r v (inr is) raised = rw (raised, is)
+
+-- the columns, one below the other
+abbrev sheet : List (List ℕ)
+sheet = column (on_sheet Threshold) 128 ∷ column (on_sheet Times50) 128 ∷ column (on_sheet Times256Over104) 128
+    ∷ column (on_sheet Times256Over42) 128 ∷ column (on_sheet Times22Plus100) 128 ∷ column (on_sheet Times25) 128 ∷ []
+
+at_place : (c : Column) → slice_index_or sheet (place_of c) [] ≡ column (on_sheet c) 128
+at_place Threshold = refl
+at_place Times50 = refl
+at_place Times256Over104 = refl
+at_place Times256Over42 = refl
+at_place Times22Plus100 = refl
+at_place Times25 = refl
+
+pub on_place : (c : Column) (columns : List (List ℕ)) → columns ≡ sheet → slice_index_or columns (place_of c) [] ≡ column (on_sheet c) 128
+on_place c columns is = rw is (at_place c)
 
 -- the number at a place of a column
 pub column_number : (c : Column) (v : ℕ) → v ≤ 127 → get_or (column (on_sheet c) 128) v 0 ≡ on_sheet c v

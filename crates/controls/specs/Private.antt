@@ -6,7 +6,7 @@ use Rattle.controls.specs.declared.Row.{Row}
 use Rattle.controls.specs.declared.Formula.{Formula}
 use Rattle.controls.specs.declared.Formula.TheVariants.{Quotient, OnSheet}
 use Rattle.controls.specs.declared.Column.{Column}
-use Rattle.controls.specs.declared.Column.TheVariants.{Threshold}
+use Rattle.controls.specs.declared.Column.TheVariants.{Threshold, Times50, Times256Over104, Times256Over42, Times22Plus100, Times25}
 use Rattle.controls.specs.Table.{row_of}
 use Rattle.controls.specs.Sheet.{column_controller}
 use Rattle.controls.specs.Showing.{smallest}
@@ -14,6 +14,15 @@ use Rattle.controls.specs.Showing.{smallest}
 -- the row whose numbers a column of the sheet has
 abbrev pub sheet_row : Column → Row
 sheet_row column = row_of Pod (column_controller column)
+
+-- a column's place on the sheet
+abbrev pub place_of : Column → ℕ
+place_of Threshold = 0
+place_of Times50 = 1
+place_of Times256Over104 = 2
+place_of Times256Over42 = 3
+place_of Times22Plus100 = 4
+place_of Times25 = 5
 
 -- the smallest value with the stored number in a column
 unfoldable pub column_shows : Column → ℕ → Result ℕ Refusal

@@ -3,24 +3,30 @@ ghost use Rattle.std.specs.Prelude.{◌≡◌, ◌≤◌, length, true, false};
 ghost use Rattle.std.specs.List.Sorted.{IsPartitionPoint};
 ghost use Rattle.ground.specs.Lists.{column};
 ghost use Rattle.controls.specs.Sheet.{on_sheet};
-ghost use Rattle.controls.specs.Private.{column_shows, falls, is_before};
+ghost use Rattle.controls.specs.Private.{column_shows, falls, is_before, place_of};
 
 use crate::Column;
 use ground::Refusal;
 
 impl Column {
     // Its numbers for 0 to 127.
-    #[tactic(auto, unfolding(crate::specs::Table::row_of, crate::specs::Table::table, crate::specs::Formulas::number_by, crate::specs::Formulas::number_for))]
     fn numbers(self) -> &'static [u16; 128]
         ensures { result.now ≡ column (on_sheet self) 128 }
     {
+        &SHEET[self.place()]
+    }
+
+    // Its place on the sheet: a number, for a choice of six addresses would be a table of addresses.
+    fn place(self) -> usize
+        ensures { result ≡ place_of self }
+    {
         match self {
-            Column::Threshold => &SHEET[0],
-            Column::Times50 => &SHEET[1],
-            Column::Times256Over104 => &SHEET[2],
-            Column::Times256Over42 => &SHEET[3],
-            Column::Times22Plus100 => &SHEET[4],
-            Column::Times25 => &SHEET[5],
+            Column::Threshold => 0,
+            Column::Times50 => 1,
+            Column::Times256Over104 => 2,
+            Column::Times256Over42 => 3,
+            Column::Times22Plus100 => 4,
+            Column::Times25 => 5,
         }
     }
 
