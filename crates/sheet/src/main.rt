@@ -2,20 +2,11 @@
 #![tactic(auto)]
 
 ghost use Rattle.std.specs.Prelude.{◌≡◌, ◌≤◌};
-ghost use Rattle.controls.specs.Sheet.{column_controller, on_sheet};
+ghost use Rattle.controls.specs.Sheet.{column_controller, on_sheet, sheet_line};
 
 use controls::Column;
 use kinds::Kind;
 use std::io;
-
-const COLUMNS: [Column; 6] = [
-    Column::Threshold,
-    Column::Times50,
-    Column::Times256Over104,
-    Column::Times256Over42,
-    Column::Times22Plus100,
-    Column::Times25,
-];
 
 fn main(rt: HostRuntime) -> io::Result<()> {
     print!(rt; "value\t23: (127 - v) x 194 / 256\t51: v x 50, at least 200\t52: v x 256/104\t")?;
@@ -30,10 +21,25 @@ fn print_line(rt: &impl Print, value: u32) -> io::Result<()>
     requires { value ≤ 127 }
 {
     print!(rt; "{value}")?;
-    for column in COLUMNS {
-        print!(rt; "\t{}", in_column(column, value))?;
+    for number in numbers(value) {
+        print!(rt; "\t{number}")?;
     }
     println!(rt)
+}
+
+// The numbers of a line, in the order of the headings.
+fn numbers(value: u32) -> [u16; 6]
+    requires { value ≤ 127 }
+    ensures { result ≡ sheet_line value }
+{
+    [
+        in_column(Column::Threshold, value),
+        in_column(Column::Times50, value),
+        in_column(Column::Times256Over104, value),
+        in_column(Column::Times256Over42, value),
+        in_column(Column::Times22Plus100, value),
+        in_column(Column::Times25, value),
+    ]
 }
 
 // A column's number for a value, as the firmware scales it. Scaling refuses none of these.
