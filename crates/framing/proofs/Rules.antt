@@ -1,22 +1,35 @@
 -- Rules that hold of any receiver, sound or not, as sentences of their own.
 use Prim.Native.Nat.{ℕ, ◌≤◌, ◌<◌}
-use mathlib.Core.Bool.{Bool, true, false, cond}
+use mathlib.Core.Bool.{Bool, true, false, true≢false, cond, not, ◌&&◌}
 use mathlib.Core.Path.{◌≡◌, refl, sym, ◌∙◌}
+use native.Mathlib.Omega.{arith}
 use lib.Dec.{ltb, eqb}
-use borrow.Author.Tests.{le-leb, lt-leb, le-ltb, ne_eqb, eqb-true}
-use Rattle.ground.proofs.Tests.{by}
+use borrow.Author.Tests.{le-leb, lt-leb, le-ltb, ne_eqb, eqb-true, not-true}
+use Rattle.ground.proofs.Tests.{both, by}
 use Rattle.framing.specs.declared.Receiver.{Receiver}
 use Rattle.framing.specs.declared.Stepped.{Stepped}
 use Rattle.framing.specs.declared.Event.{Event}
 use Rattle.framing.specs.declared.Event.TheVariants.{Nothing, Collect}
 use Rattle.framing.specs.Receiver.{fresh, is_open, is_long}
 use Rattle.framing.specs.Events.{event_number}
-use Rattle.framing.specs.Bytes.{step_to, status_of, finished_of, step_of}
+use Rattle.framing.specs.Bytes.{step_to, is_real_time, status_of, finished_of, step_of}
 
 -- "F8 to FF: reply number 0, and nothing changes, in the middle of a message too."
 pub real_time_lem : (limit : ℕ) (r : Receiver) (byte : ℕ) → 0xF8 ≤ byte → step_of limit r byte ≡ step_to r Nothing
 unfolding step_of
 real_time_lem limit r byte h = rw (le-leb 0xF8 byte h)
+
+-- a data byte is no real-time byte, whichever is asked first
+pub no_real_time : (byte : ℕ) → byte < 0x80 → is_real_time byte ≡ false
+no_real_time byte h = lt-leb 0xF8 byte (omega arith)
+
+-- whether a data byte is the first of two, by whether its status takes one, and whether one waits
+pub first_of_two : (one waiting : Bool) → (not one && not waiting) ≡ true → (one ≡ false) × (waiting ≡ false)
+first_of_two one waiting e = let p = both (not one) (not waiting) e in (not-true one p.0, not-true waiting p.1)
+
+pub last_of_two : (one waiting : Bool) → (not one && not waiting) ≡ false → one ≡ false → waiting ≡ true
+last_of_two one true e f = refl
+last_of_two one false e f = absurd (true≢false (rw f at e))
 
 -- what stands after a status byte does not depend on what it does besides
 picked : (t u : Bool) (x y z : Receiver) (event opening : Event)

@@ -35,7 +35,7 @@ flag : (x : ℕ) → leb x 1 ≡ true → eqb x 1 ≡ false → x ≡ 0
 flag x h e = let l = leb-true x 1 h in let n = eqb-false x 1 e in omega arith
 
 -- a receiver is its six numbers, so it stands as they do
-as_numbers : (limit : ℕ) (r : Receiver) {n o v u h w : ℕ}
+pub as_numbers : (limit : ℕ) (r : Receiver) {n o v u h w : ℕ}
     → r.stored ≡ n → r.inside ≡ o → r.over ≡ v → r.running ≡ u → r.held ≡ h → r.waiting ≡ w
     → Stands limit (record { stored = n; inside = o; over = v; running = u; held = h; waiting = w }) → Stands limit r
 as_numbers limit r n o v u h w =
@@ -83,7 +83,7 @@ clauses limit r h =
       is_full = long.1;
     }
 
-channel : (s : ℕ) → is_channel s ≡ true → (0x80 ≤ s) × (s ≤ 0xEF)
+pub channel : (s : ℕ) → is_channel s ≡ true → (0x80 ≤ s) × (s ≤ 0xEF)
 channel s h = let p = both (leb 0x80 s) (leb s 0xEF) h in (leb-true _ _ p.0, leb-true _ _ p.1)
 
 module _ (limit : ℕ) (r : Receiver) (c : Clauses limit r) where

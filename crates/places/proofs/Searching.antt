@@ -19,14 +19,14 @@ use Rattle.halves.specs.HalfBytes.{all_halves}
 use Rattle.places.specs.Places.{First, first_above, first_bad}
 
 -- a list that has one, and it alone
-is_first : (n : ℕ) (xs : List ℕ) → all_at_most n xs ≡ false → First n (first_above n xs) xs
+pub is_first : (n : ℕ) (xs : List ℕ) → all_at_most n xs ≡ false → First n (first_above n xs) xs
 is_first n [] t = absurd (true≢false t)
 is_first n (x ∷ xs) t =
     by (λ (k : ℕ). First n k (x ∷ xs)) (leb x n) (first_above n xs + 1) 0
     (λ e. let f = is_first n xs (rw e at t) in rw add-one (record { inside = omega arith; above = f.above; before = rw e f.before }))
     (λ e. record { inside = omega arith; above = leb-false x n e; before = refl })
 
-first_here : (n i : ℕ) (xs : List ℕ) → all_at_most n (take i xs) ≡ true → n < get_or xs i 0 → first_above n xs ≡ i
+pub first_here : (n i : ℕ) (xs : List ℕ) → all_at_most n (take i xs) ≡ true → n < get_or xs i 0 → first_above n xs ≡ i
 first_here n i [] t h = absurd (omega arith)
 first_here n zero (x ∷ xs) t h = rw (lt-leb x n h)
 first_here n (suc i) (x ∷ xs) t h =

@@ -1,6 +1,6 @@
--- A step of a sound receiver stays within the receive buffer, a socket is its player's, and a program change names a program.
+-- A step of a sound receiver stays within the receive buffer, a socket is its player's, a program change names a program, and a move's number is its answer.
 use Prim.Native.Nat.{ℕ, zero, suc, ◌/◌, ◌≤◌, ◌<◌}
-use mathlib.Core.Bool.{true, ◌&&◌}
+use mathlib.Core.Bool.{true, cond, ◌&&◌}
 use mathlib.Core.List.{List, [], ◌∷◌}
 use mathlib.Core.Path.{◌≡◌, refl}
 use native.Mathlib.Omega.{arith}
@@ -14,8 +14,11 @@ use lib.Dec.{eqb, leb}
 use lib.ListN.{length}
 use borrow.Author.Tests.{leb-true, ne_eqb}
 use Rattle.std.specs.Prelude.{Result, Ok, Err}
+use Rattle.ground.specs.declared.Refusal.{Refusal}
+use Rattle.ground.specs.declared.Refusal.TheVariants.{NotListed, OutOfRange, NotSelected, TooShort}
+use Rattle.ground.specs.Refusals.{refusal_number}
 use Rattle.ground.specs.Tests.{Test, tested, AllHold}
-use Rattle.ground.proofs.InOrder.{tested_cases}
+use Rattle.ground.proofs.InOrder.{tested_cases, first-named}
 use Rattle.ground.proofs.Tests.{both}
 use Rattle.programs.specs.Held.{Held}
 use Rattle.programs.proofs.Players.{edit-inside}
@@ -28,9 +31,15 @@ use Rattle.framing.proofs.Keeps.{collects_below, finishes_within}
 use Rattle.sockets.specs.Box.{Lent}
 use Rattle.sockets.specs.Promise.{socket_of, step_does, byte_of}
 use Rattle.sysex.specs.declared.Settings.{Settings}
+use Rattle.sysex.specs.declared.Answer.TheVariants.{Applied}
 use Rattle.sysex.specs.Forms.{longest}
+use Rattle.sysex.specs.Numbers.{Answered, answer_number}
 use Rattle.sysex.proofs.Lengths.{longest_bounds}
-use Rattle.podbox.specs.Messages.{is_program_change}
+use Rattle.controls.specs.Answers.{change_number}
+use Rattle.controls.specs.Table.{row_of}
+use Rattle.controls.specs.Applying.{Changed, unchanged, apply_tests, apply_of}
+use Rattle.controls.proofs.Controllers.{apply_cases}
+use Rattle.podbox.specs.Messages.{is_program_change, change_answer}
 use Rattle.podbox.specs.Box.{limit, socket_player, box_rules}
 use Rattle.podbox.specs.Private.{Within, socket_for, passes, length_tests, ready_does, largest_memory, largest_buffer, are_largest}
 
@@ -81,6 +90,29 @@ change_numbered kind status number t =
     let q = both (eqb (status / 16) 0xC) (low && high) p.1 in
     let r = both low high q.1 in
     (leb-true _ _ r.0, leb-true _ _ r.1)
+
+-- what a move's number tells: 3 "controller applied", or why it was not
+abbrev told_by : ℕ → Answered
+told_by number =
+    cond (eqb number 3) (Ok Applied)
+    (cond (eqb number 17) (Err NotListed) (cond (eqb number 18) (Err OutOfRange) (cond (eqb number 19) (Err NotSelected) (Err TooShort))))
+
+-- a move's number is that of its answer, and says whether it was applied, and if not why not
+pub move-told : (kind : Kind) (controller value : ℕ) (edit : List ℕ)
+    → (let done = (apply_of kind controller value edit).answer in
+    (answer_number (change_answer done) ≡ change_number done) × (told_by (change_number done) ≡ change_answer done))
+unfolding apply_of
+move-told kind controller value edit =
+    tested_cases
+    (λ (x : Changed). (answer_number (change_answer x.answer) ≡ change_number x.answer) × (told_by (change_number x.answer) ≡ change_answer x.answer))
+    (apply_tests kind (row_of kind controller) value edit) (unchanged edit) _
+    (λ _. (refl, refl))
+    (λ _ f. (refl, first-named (λ (r : Refusal). told_by (refusal_number r) ≡ Err r) f ((λ _. refl), (λ _. ((λ _. refl), (λ _. ((λ _. refl), (λ _. ((λ _. refl), (λ _. tt))))))))))
+
+-- and no move has a lesser one than 3
+pub move_least : (kind : Kind) (controller value : ℕ) (edit : List ℕ) → 3 ≤ change_number (apply_of kind controller value edit).answer
+move_least kind controller value edit =
+    apply_cases kind controller value edit (λ x. 3 ≤ change_number x.answer) (λ _. omega arith) (λ refusal low high. omega arith) (λ _ _. omega arith)
 
 -- where nothing is refused, all tests hold
 pub all_held : {Name A : Type 0} (ts : List (Test Name)) (x y : A) → Ok y ≡ tested ts Err (Ok x) → AllHold ts × (y ≡ x)

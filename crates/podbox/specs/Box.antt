@@ -133,6 +133,7 @@ rules_with tests tests_direct kind settings = record {
   number = answer_number;
   count = answer_length;
   extent = extent_of;
+  Why = Refusal;
   nothing = Ok Taken;
   cut = Ok Cut;
   refused = Err;

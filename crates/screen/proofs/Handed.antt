@@ -41,14 +41,14 @@ module _ (kind_number program own player : ℕ) (programs buffer : Slice) where
   handed = screen_of kind_number program own player programs buffer
 
   -- where no test fails, the part that is asked for lies in what was lent
-  shared-inside : AllHold tests → eqb own 0 ≡ true → program_place kind program + size_of kind ≤ length programs.now
+  pub shared-inside : AllHold tests → eqb own 0 ≡ true → program_place kind program + size_of kind ≤ length programs.now
   shared-inside all shared =
       let high : cond (eqb own 0) (leb program last_program) true ≡ true = search all in
       let low = leb-true program last_program (rw shared at high) in
       let long = leb-true (all_size kind) (length programs.now) (search all) in
       omega (arith, mul-le-mul_right (size_of kind) low)
 
-  own_inside : AllHold tests → size_of kind ≤ length buffer.now
+  pub own_inside : AllHold tests → size_of kind ≤ length buffer.now
   own_inside all = leb-true (size_of kind) (length buffer.now) (search all)
 
   -- no refusal has the number 0

@@ -6,7 +6,6 @@ use mathlib.Core.List.{List}
 use lib.ListN.{length, take}
 use lib.Seq.{take-append_seam}
 use Rattle.ground.specs.Tests.{Test, tested, AllHold, FirstToFail, here, later}
-use Rattle.ground.specs.declared.Refusal.{Refusal}
 use Rattle.ground.specs.Calls.{left, leaves}
 use Rattle.ground.proofs.InOrder.{tested_cases}
 use Rattle.framing.specs.Bytes.{step_of}
@@ -21,12 +20,12 @@ number-socket S1 = refl
 
 module _ (rules : Rules) where
   -- the first test that fails has a number by which the call is turned away
-  away_first : {ts : List (Test Refusal)} {name : Refusal} → FirstToFail ts name → Away rules ts → turned_away (rules.number (rules.refused name)) ≡ true
+  away_first : {ts : List (Test rules.Why)} {name : rules.Why} → FirstToFail ts name → Away rules ts → turned_away (rules.number (rules.refused name)) ≡ true
   away_first (here t e) a = a.0
   away_first (later t e f) a = away_first f a.1
 
   -- of a call that is not turned away every test holds, and it does what stands behind them
-  taken : {A : Type 0} (answer : A → rules.Code) (ts : List (Test Refusal)) (failed : Refusal → A) (x : A) → ((r : Refusal) → answer (failed r) ≡ rules.refused r) → Away rules ts
+  taken : {A : Type 0} (answer : A → rules.Code) (ts : List (Test rules.Why)) (failed : rules.Why → A) (x : A) → ((w : rules.Why) → answer (failed w) ≡ rules.refused w) → Away rules ts
       → turned_away (rules.number (answer (tested ts failed x))) ≡ false → AllHold ts × (tested ts failed x ≡ x)
   taken {A} answer ts failed x says away =
       tested_cases (λ (y : A). turned_away (rules.number (answer y)) ≡ false → AllHold ts × (y ≡ x)) ts failed x
@@ -58,8 +57,8 @@ module _ (rules : Rules) (law : Lawful rules) where
   unfolding byte_of
   byte_passed socket b entry done c e =
       taken rules (λ (d : TookOf rules). d.answer) (rules.tests socket entry)
-      (λ refusal. took entry.receiver (rules.refused refusal) entry.held entry.receive entry.reply)
-      (step_does rules (socket_of socket) b entry (step_of rules.limit entry.receiver b)) (λ r. refl) (law.away socket entry) (rw c at e)
+      (λ why. took entry.receiver (rules.refused why) entry.held entry.receive entry.reply)
+      (step_does rules (socket_of socket) b entry (step_of rules.limit entry.receiver b)) (λ w. refl) (law.away socket entry) (rw c at e)
 
   pub byte_took : (socket b : ℕ) (entry : LentOf rules) (done : TookOf rules) → done ≡ byte_of rules socket b entry
       → turned_away (rules.number done.answer) ≡ false
@@ -92,8 +91,8 @@ module _ (rules : Rules) (law : Lawful rules) where
       → AllHold (rules.tests_direct x held out) × (direct_of rules x held out ≡ leaves (direct_does rules held x) out)
   unfolding direct_of
   direct_passed x held out done c e =
-      taken rules (λ (l : LeftOf rules). l.answer) (rules.tests_direct x held out) (λ refusal. left (rules.refused refusal) held out)
-      (leaves (direct_does rules held x) out) (λ r. refl) (law.away_direct x held out) (rw c at e)
+      taken rules (λ (l : LeftOf rules). l.answer) (rules.tests_direct x held out) (λ why. left (rules.refused why) held out)
+      (leaves (direct_does rules held x) out) (λ w. refl) (law.away_direct x held out) (rw c at e)
 
   pub direct_took : (x : rules.Given) (held : rules.Held) (out : List ℕ) (done : LeftOf rules) → done ≡ direct_of rules x held out
       → turned_away (rules.number done.answer) ≡ false → TookDirect x held done (direct_does rules held x)

@@ -2,7 +2,6 @@
 -- Demand 3 leaves open what a message does: it holds whatever the rules are.
 use Rattle.std.specs.Prelude.{ℕ, zero, ◌<◌, ◌≡◌, Bool, true, cond, ◌&&◌, List, [], ◌∷◌, leb, eqb, length}
 use Rattle.ground.specs.Tests.{Test, AllHold}
-use Rattle.ground.specs.declared.Refusal.{Refusal}
 use Rattle.ground.specs.Calls.{Outcome, outcome, Left}
 use Rattle.framing.specs.declared.Receiver.{Receiver}
 use Rattle.sockets.specs.Framer.{Message, Happening, Nothing, Cut, Finished, Framer}
@@ -50,15 +49,17 @@ pub record Rules : Type 1 where
   pub count : Code → ℕ
   -- how much a direct call that answers so has written
   pub extent : Given → Code → ℕ
+  -- why a call is turned away: a number, or a name that has one
+  pub Why : Type 0
   -- what is answered with no reply: 0 "byte taken, nothing finished", 4 "SysEx cut", and why a call is turned away
   pub nothing : Code
   pub cut : Code
-  pub refused : Refusal → Code
+  pub refused : Why → Code
   -- the most bytes of a SysEx that are stored
   pub limit : ℕ
   -- "A call tests 30, 31, 32 in that order": the tests of a byte call, and of a direct one
-  pub tests : ℕ → Lent Held → List (Test Refusal)
-  pub tests_direct : Given → Held → List ℕ → List (Test Refusal)
+  pub tests : ℕ → Lent Held → List (Test Why)
+  pub tests_direct : Given → Held → List ℕ → List (Test Why)
   -- the messages that a direct call finishes
   pub hands : Given → List Delivered
   -- what a finished message does
@@ -133,7 +134,7 @@ module _ (rules : Rules) where
       outcome a.answer (held_after held fs) a.sent
 
 -- each test has a number by which a call is turned away
-abbrev pub Away : (rules : Rules) → List (Test Refusal) → Type 0
+abbrev pub Away : (rules : Rules) → List (Test rules.Why) → Type 0
 Away rules [] = Unit {0}
 Away rules (t ∷ ts) = (turned_away (rules.number (rules.refused t.name)) ≡ true) × Away rules ts
 

@@ -52,9 +52,9 @@ module _ (rules : Rules) where
   unfoldable pub byte_of : ℕ → ℕ → LentOf rules → TookOf rules
   byte_of socket byte entry =
       tested (rules.tests socket entry)
-      (λ refusal. took entry.receiver (rules.refused refusal) entry.held entry.receive entry.reply)
+      (λ why. took entry.receiver (rules.refused why) entry.held entry.receive entry.reply)
       (step_does (socket_of socket) byte entry (step_of rules.limit entry.receiver byte))
 
   -- a direct call
   unfoldable pub direct_of : rules.Given → rules.Held → List ℕ → LeftOf rules
-  direct_of x held out = tested (rules.tests_direct x held out) (λ refusal. left (rules.refused refusal) held out) (leaves (direct_does rules held x) out)
+  direct_of x held out = tested (rules.tests_direct x held out) (λ why. left (rules.refused why) held out) (leaves (direct_does rules held x) out)
