@@ -3,7 +3,6 @@ use crate::lent::Lent;
 use crate::receiver;
 use crate::script::Part;
 use framing::Receiver;
-use std::alloc::{AllocError, Global};
 use sysex::Settings;
 
 // Each buffer is longer than a call of any kind needs.
@@ -17,7 +16,7 @@ const SIZE: usize = 5800;
 #[derive(Drop)]
 pub(crate) struct Socket {
     pub(crate) receiver: Receiver,
-    pub(crate) receive: Lent,
+    pub(crate) receive: Lent<SIZE>,
 }
 
 #[derive(Drop)]
@@ -27,10 +26,10 @@ pub(crate) struct Desk {
     // The number of a player, or of none.
     pub(crate) player: u32,
     pub(crate) settings: Settings,
-    pub(crate) memory: Lent,
-    pub(crate) marks: Lent,
+    pub(crate) memory: Lent<MEMORY>,
+    pub(crate) marks: Lent<MARKS>,
     pub(crate) sockets: [Socket; 2],
-    pub(crate) reply: Lent,
+    pub(crate) reply: Lent<SIZE>,
     // How many bytes of memory the screen is lent as the programs, and from which place on as the own buffer.
     pub(crate) programs: u16,
     pub(crate) own: u16,
@@ -40,30 +39,30 @@ pub(crate) struct Desk {
 }
 
 impl Socket {
-    fn fresh(alloc: Global) -> Result<Socket, AllocError> {
-        Ok(Socket {
+    fn fresh() -> Socket {
+        Socket {
             receiver: framing::fresh(),
-            receive: Lent::new(alloc, 0, SIZE, 5193)?,
-        })
+            receive: Lent::new(0, 5193),
+        }
     }
 }
 
 impl Desk {
     // As much is lent as a call of a POD needs: what second/REPLAY.md says is lent at first.
-    pub(crate) fn fresh(alloc: Global) -> Result<Desk, AllocError> {
-        Ok(Desk {
+    pub(crate) fn fresh() -> Desk {
+        Desk {
             kind: kinds::POD,
             player: 0,
             settings: podbox::FRESH_SETTINGS,
-            memory: Lent::new(alloc, 0, MEMORY, 2736)?,
-            marks: Lent::new(alloc, 1, MARKS, 38)?,
-            sockets: [Socket::fresh(alloc)?, Socket::fresh(alloc)?],
-            reply: Lent::new(alloc, 0, SIZE, 5193)?,
+            memory: Lent::new(0, 2736),
+            marks: Lent::new(1, 38),
+            sockets: [Socket::fresh(), Socket::fresh()],
+            reply: Lent::new(0, 5193),
             programs: 2592,
             own: 2592,
             controller: 0,
             calls: 0,
-        })
+        }
     }
 
     // Any number above 0 is that of socket 1.

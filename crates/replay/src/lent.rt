@@ -1,37 +1,32 @@
 // A buffer, of which a call is lent the first bytes.
-ghost use Rattle.std.specs.Prelude.{◌≡◌, ◌≤◌, min, take, drop, vec_len};
-
-use std::alloc::{AllocError, Global};
+ghost use Rattle.std.specs.Prelude.{◌≡◌, ◌≤◌, min, take, drop};
 
 #[derive(Drop)]
-pub(crate) struct Lent {
-    bytes: Vec<u8>,
+pub(crate) struct Lent<const LENGTH: usize> {
+    bytes: [u8; LENGTH],
     count: usize,
-    ghost within: { count ≤ vec_len bytes },
+    ghost within: { count ≤ LENGTH },
 }
 
-impl Lent {
-    pub(crate) fn new(
-        alloc: Global,
-        byte: u8,
-        length: usize,
-        count: u16,
-    ) -> Result<Lent, AllocError> {
-        let bytes = vec![in alloc; byte; length]?;
-        let count = usize::from(count).min(bytes.len());
-        Ok(Lent { bytes, count })
+impl<const LENGTH: usize> Lent<LENGTH> {
+    // Filled with a byte.
+    pub(crate) fn new(byte: u8, count: u16) -> Lent<LENGTH> {
+        Lent {
+            bytes: [byte; LENGTH],
+            count: usize::from(count).min(LENGTH),
+        }
     }
 
     // A count above the buffer's own length is taken as that.
     pub(crate) fn lend(&mut self, count: u16)
-        ensures { self.new.count ≡ min count (vec_len self.old.bytes) }
+        ensures { self.new.count ≡ min count LENGTH }
     {
-        self.count = usize::from(count).min(self.bytes.len());
+        self.count = usize::from(count).min(LENGTH);
     }
 
     // All of it, whatever is lent.
     pub(crate) fn bytes(&self) -> &[u8] {
-        self.bytes.as_slice()
+        &self.bytes
     }
 
     pub(crate) fn lent(&self) -> &[u8] {
@@ -40,12 +35,14 @@ impl Lent {
 
     pub(crate) fn lent_mut(&mut self) -> &mut [u8] {
         let count = self.count;
-        &mut self.bytes[..count]
+        let bytes = &mut self.bytes;
+        let all = &mut bytes[..];
+        &mut all[..count]
     }
 
     // A place past the end is counted from the start again.
     pub(crate) fn set(&mut self, place: u16, byte: u8) {
-        if let Some(place) = usize::from(place).checked_rem(self.bytes.len()) {
+        if let Some(place) = usize::from(place).checked_rem(LENGTH) {
             self.bytes[place] = byte;
         }
     }

@@ -12,21 +12,22 @@ mod script;
 use replay::Replay;
 use script::Command;
 use std::io;
-use std::io::{BufWriter, Read, Write};
+use std::io::{BufReader, BufWriter, Write};
 
-// What could be read is run, and a rest of fewer than four bytes is no command. A read that failed is an error all the same.
+// Command after command, to the end of the script. A proved loop has to end, and nothing says that an input does: so its
+// turns are counted, up to a number that no run reaches.
 fn main(rt: HostRuntime) -> io::Result<()> {
-    let mut script = Vec::new(rt.alloc());
-    let read = rt.reader().read_to_end(&mut script);
+    let mut script = BufReader::new(rt.alloc(), rt.reader())?;
     let mut out = BufWriter::new(rt.alloc(), io::writer(&rt))?;
-    let mut replay = Replay::fresh(rt.alloc())?;
-    let (commands, _) = script.as_chunks::<4>();
-    for bytes in commands {
-        if let Ok(command) = Command::try_from(*bytes) {
+    let mut replay = Replay::fresh();
+    for _ in 0..u64::MAX {
+        let Some(bytes) = script::read(&mut script)? else {
+            break;
+        };
+        if let Ok(command) = Command::try_from(bytes) {
             replay.run(command, &mut out)?;
         }
     }
-    read?;
     replay.end(&mut out)?;
     out.flush()
 }

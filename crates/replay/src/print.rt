@@ -2,8 +2,8 @@
 use crate::desk::Desk;
 use crate::{lent, receiver};
 use ground::Refusal;
+use std::io;
 use std::io::Write;
-use std::{fmt, io};
 use sysex::{Answer, Answered};
 
 // The line of a call of the box, and a second with its reply where there is one.
@@ -65,28 +65,28 @@ pub(crate) fn end(desk: &Desk, out: &mut impl Write) -> io::Result<()> {
     writeln!(out, "c\t{}", desk.calls)
 }
 
-// A line with bytes in hex.
+// A line with bytes in hex, some of them at a time.
 pub(crate) fn hex(letter: char, bytes: &[u8], out: &mut impl Write) -> io::Result<()> {
-    writeln!(out, "{letter}\t{}", Digits(bytes))
+    write!(out, "{letter}\t")?;
+    for part in bytes.chunks(256) {
+        let mut digits = [[0; 2]; 256];
+        for (two, byte) in digits.iter_mut().zip(part) {
+            *two = [digit(byte / 16), digit(byte % 16)];
+        }
+        let (written, _) = lent::cut(digits.as_flattened(), 2 * part.len());
+        out.write_all(written)?;
+    }
+    out.write_all(b"\n")
 }
 
-// Two digits for each byte.
-#[derive(Clone, Copy)]
-struct Digits<'a>(&'a [u8]);
-
-impl fmt::Display for Digits<'_> {
-    fn fmt<W: fmt::Write>(&self, f: &mut fmt::Formatter<W>) -> fmt::Result {
-        for byte in self.0 {
-            write!(f, "{byte:02x}")?;
-        }
-        Ok(())
-    }
+fn digit(half_byte: u8) -> u8 {
+    b"0123456789abcdef"[half_byte as usize % 16]
 }
 
 // Each byte times its place, counted from 1, summed; the sweep's is its own, of 32 bits, as its lines are.
 fn digest(bytes: &[u8]) -> u64 {
-    let places = (1u64..).zip(bytes);
-    places.fold(0u64, |sum, (place, byte)| {
+    let places = bytes.iter().zip(1u64..);
+    places.fold(0u64, |sum, (byte, place)| {
         sum.wrapping_add(place.wrapping_mul(u64::from(*byte)))
     })
 }

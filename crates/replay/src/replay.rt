@@ -3,23 +3,24 @@ use crate::desk::Desk;
 use crate::lent::Lent;
 use crate::print;
 use crate::script::Command;
-use std::alloc::{AllocError, Global};
 use std::io;
 use std::io::Write;
+
+const MESSAGE: usize = 8192;
 
 #[derive(Drop)]
 pub(crate) struct Replay {
     // Lent is as much as it has.
-    message: Lent,
+    message: Lent<MESSAGE>,
     desk: Desk,
 }
 
 impl Replay {
-    pub(crate) fn fresh(alloc: Global) -> Result<Replay, AllocError> {
-        Ok(Replay {
-            message: Lent::new(alloc, 0, 8192, 0)?,
-            desk: Desk::fresh(alloc)?,
-        })
+    pub(crate) fn fresh() -> Replay {
+        Replay {
+            message: Lent::new(0, 0),
+            desk: Desk::fresh(),
+        }
     }
 
     pub(crate) fn run(&mut self, command: Command, out: &mut impl Write) -> io::Result<()> {

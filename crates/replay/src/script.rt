@@ -1,4 +1,16 @@
 // A script: commands of four bytes.
+use std::io;
+use std::io::{ErrorKind, Read};
+
+// The bytes of the next command. A rest of fewer than four bytes is the end, and a read that fails is an error.
+pub(crate) fn read(script: &mut impl Read) -> io::Result<Option<[u8; 4]>> {
+    let mut bytes = [0; 4];
+    match script.read_exact(&mut bytes) {
+        Ok(()) => Ok(Some(bytes)),
+        Err(error) if error.kind() == ErrorKind::UnexpectedEof => Ok(None),
+        Err(error) => Err(error),
+    }
+}
 
 // What a command does, by its letter: it sets something, or it is a call.
 #[derive(Clone, Copy)]
