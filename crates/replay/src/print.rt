@@ -65,11 +65,14 @@ pub(crate) fn end(desk: &Desk, out: &mut impl Write) -> io::Result<()> {
     writeln!(out, "c\t{}", desk.calls)
 }
 
-// A line with bytes in hex, some of them at a time.
+// How many bytes are spelled, and then written, at a time.
+const SPELLED: usize = 256;
+
+// A line with bytes in hex. The digits are from a table: by `{byte:02x}` a byte takes many times as long.
 pub(crate) fn hex(letter: char, bytes: &[u8], out: &mut impl Write) -> io::Result<()> {
     write!(out, "{letter}\t")?;
-    for part in bytes.chunks(256) {
-        let mut digits = [[0; 2]; 256];
+    for part in bytes.chunks(SPELLED) {
+        let mut digits = [[0; 2]; SPELLED];
         for (two, byte) in digits.iter_mut().zip(part) {
             *two = [digit(byte / 16), digit(byte % 16)];
         }
@@ -83,10 +86,13 @@ fn digit(half_byte: u8) -> u8 {
     b"0123456789abcdef"[half_byte as usize % 16]
 }
 
-// Each byte times its place, counted from 1, summed; the sweep's is its own, of 32 bits, as its lines are.
+// Each byte times its place, counted from 1, summed: going down from the last place, the bytes so far are added at each, so
+// that a byte counts as often as its place says. The sweep's is its own, of 32 bits, as its lines are.
 fn digest(bytes: &[u8]) -> u64 {
-    let places = bytes.iter().zip(1u64..);
-    places.fold(0u64, |sum, (byte, place)| {
-        sum.wrapping_add(place.wrapping_mul(u64::from(*byte)))
-    })
+    let from_the_end = bytes.iter().rev();
+    let (_, digest) = from_the_end.fold((0u64, 0u64), |(behind, digest), byte| {
+        let from_here = behind.wrapping_add(u64::from(*byte));
+        (from_here, digest.wrapping_add(from_here))
+    });
+    digest
 }
