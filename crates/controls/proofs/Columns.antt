@@ -1,6 +1,6 @@
 -- Laws of the formulas' numbers: which rows have those of a column of the sheet, and which the quotients.
-use Prim.Native.Nat.{ℕ, ◌+◌, ◌/◌, ◌≤◌}
-use mathlib.Core.Bool.{true, false, false≢true}
+use Prim.Native.Nat.{ℕ, ◌/◌, ◌≤◌}
+use mathlib.Core.Bool.{true}
 use mathlib.Core.List.{List, [], ◌∷◌}
 use mathlib.Core.Logic.{◌⊎◌, inl, inr}
 use mathlib.Core.Path.{◌≡◌, refl, sym, ◌∙◌}
@@ -22,8 +22,7 @@ use Rattle.controls.specs.Formulas.{number_by, number_for}
 use Rattle.controls.specs.Table.{table, row_of}
 use Rattle.controls.specs.Sheet.{column_controller, on_sheet}
 use Rattle.controls.specs.Scaling.{scale_of}
-use Rattle.controls.specs.Showing.{smallest, shown_by, shown_of}
-use Rattle.controls.specs.Private.{sheet_row, place_of, least_of, divides, divisor_of, takes}
+use Rattle.controls.specs.Private.{sheet_row, place_of, least_of, divisor_of, takes}
 use Rattle.controls.proofs.Rows.{row_sane}
 
 -- Controllers with the same formula have the same number for a value, whatever their kinds.
@@ -54,48 +53,26 @@ unfolding number_for number_by
 received r v is raised = rw (raised, is) (omega arith)
 
 -- what a formula divides by is something, where it takes values
-pub by_something : (f : Formula) (highest : ℕ) → takes f highest ≡ true → 1 ≤ divisor_of f
-by_something AsReceived highest t = omega arith
-by_something (Quotient d) highest t = leb-true 1 d t
-by_something (OnSheet c) highest t = omega arith
-by_something MUpper highest t = omega arith
-by_something MLower highest t = omega arith
+pub divides : (f : Formula) (highest : ℕ) → takes f highest ≡ true → 1 ≤ divisor_of f
+divides AsReceived highest t = omega arith
+divides (Quotient d) highest t = leb-true 1 d t
+divides (OnSheet c) highest t = omega arith
+divides MUpper highest t = omega arith
+divides MLower highest t = omega arith
 
--- where a formula divides, the number is a quotient
-pub divided : (r : Row) (f : Formula) (v : ℕ) → f ≡ r.formula → divides f ≡ true → r.least ≡ least_of r.formula → number_for r v ≡ v / divisor_of f
-divided r AsReceived v is d raised = let one : v / 1 ≡ v = omega arith in received r v (sym is) raised ∙ sym one
-divided r (Quotient n) v is d raised = quotient r n v (sym is) raised
-divided r (OnSheet c) v is d raised = absurd (false≢true d)
-divided r MUpper v is d raised = absurd (false≢true d)
-divided r MLower v is d raised = absurd (false≢true d)
+-- of each formula that is no column's and none of m's the number is a quotient
+pub divided : (r : Row) (f : Formula) (v : ℕ) → f ≡ r.formula → ((c : Column) → f ≡ OnSheet c → ⊥) → (f ≡ MUpper → ⊥) → (f ≡ MLower → ⊥)
+    → r.least ≡ least_of r.formula → number_for r v ≡ v / divisor_of f
+divided r AsReceived v is sheet upper lower raised = let one : v / 1 ≡ v = omega arith in received r v (sym is) raised ∙ sym one
+divided r (Quotient d) v is sheet upper lower raised = quotient r d v (sym is) raised
+divided r (OnSheet c) v is sheet upper lower raised = absurd (sheet c refl)
+divided r MUpper v is sheet upper lower raised = absurd (upper refl)
+divided r MLower v is sheet upper lower raised = absurd (lower refl)
 
--- and the smallest value is shown
-shown_by_formula : (f : Formula) (r : Row) (stored : ℕ) → divides f ≡ true → shown_by f r stored ≡ smallest r stored (r.highest + 1) 0
-shown_by_formula AsReceived r stored d = refl
-shown_by_formula (Quotient n) r stored d = refl
-shown_by_formula (OnSheet c) r stored d = refl
-shown_by_formula MUpper r stored d = absurd (false≢true d)
-shown_by_formula MLower r stored d = absurd (false≢true d)
-
-pub shown_divided : (r : Row) (stored : ℕ) → divides r.formula ≡ true → shown_of r stored ≡ smallest r stored (r.highest + 1) 0
-unfolding shown_of
-shown_divided r stored d = shown_by_formula r.formula r stored d
-
--- where it does not, and is no column's, it is one of m's
-of_m : (f : Formula) → divides f ≡ false → ((c : Column) → f ≡ OnSheet c → ⊥) → (f ≡ MUpper) ⊎ (f ≡ MLower)
-of_m AsReceived d other = absurd (false≢true (sym d))
-of_m (Quotient n) d other = absurd (false≢true (sym d))
-of_m (OnSheet c) d other = absurd (other c refl)
-of_m MUpper d other = inl refl
-of_m MLower d other = inr refl
-
-none_of_m : (r : Row) (v : ℕ) → (r.formula ≡ MUpper) ⊎ (r.formula ≡ MLower) → r.least ≡ least_of r.formula → number_for r v ≡ 0
+pub none_of_m : (r : Row) (v : ℕ) → (r.formula ≡ MUpper) ⊎ (r.formula ≡ MLower) → r.least ≡ least_of r.formula → number_for r v ≡ 0
 unfolding number_for number_by
 none_of_m r v (inl is) raised = rw (raised, is)
 none_of_m r v (inr is) raised = rw (raised, is)
-
-pub no_number : (r : Row) (v : ℕ) → divides r.formula ≡ false → ((c : Column) → r.formula ≡ OnSheet c → ⊥) → r.least ≡ least_of r.formula → number_for r v ≡ 0
-no_number r v d other = none_of_m r v (of_m r.formula d other)
 
 -- the columns, one below the other
 abbrev sheet : List (List ℕ)

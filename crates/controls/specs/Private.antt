@@ -4,7 +4,7 @@ use Rattle.ground.specs.declared.Refusal.{Refusal}
 use Rattle.kinds.specs.declared.Kind.TheVariants.{Pod}
 use Rattle.controls.specs.declared.Row.{Row}
 use Rattle.controls.specs.declared.Formula.{Formula}
-use Rattle.controls.specs.declared.Formula.TheVariants.{AsReceived, Quotient, OnSheet}
+use Rattle.controls.specs.declared.Formula.TheVariants.{Quotient, OnSheet}
 use Rattle.controls.specs.declared.Column.{Column}
 use Rattle.controls.specs.declared.Column.TheVariants.{Threshold, Times50, Times256Over104, Times256Over42, Times22Plus100, Times25}
 use Rattle.controls.specs.Table.{row_of}
@@ -33,13 +33,7 @@ abbrev pub least_of : Formula → ℕ
 least_of (OnSheet column) = (sheet_row column).least
 least_of formula = 0
 
--- whether a formula divides: a value as received by 1
-abbrev pub divides : Formula → Bool
-divides AsReceived = true
-divides (Quotient divisor) = true
-divides formula = false
-
--- what it divides by, where it does
+-- what a formula divides by: a value as received by 1, as is said of each but the quotients
 abbrev pub divisor_of : Formula → ℕ
 divisor_of (Quotient divisor) = divisor
 divisor_of formula = 1

@@ -1,9 +1,9 @@
 // The formulas, and the way back from a stored number.
-ghost use Rattle.std.specs.Prelude.{false, ◌≡◌, ◌≤◌, ◌+◌, ◌/◌, ℕ, length};
+ghost use Rattle.std.specs.Prelude.{◌≡◌, ◌≤◌, ◌+◌, ◌/◌, ℕ, length};
 ghost use Rattle.kinds.specs.Kinds.{size_of};
 ghost use Rattle.controls.specs.Fields.{number_in};
 ghost use Rattle.controls.specs.Formulas.{number_for, m_of, next_for};
-ghost use Rattle.controls.specs.Private.{divides, divisor_of};
+ghost use Rattle.controls.specs.Private.{divisor_of};
 ghost use Rattle.controls.specs.Showing.{smallest, seven_bits, shown_of};
 
 use crate::Formula;
@@ -11,14 +11,8 @@ use crate::control::Control;
 use ground::Refusal;
 
 impl Formula {
-    // Whether it divides. A value as received goes the way of the quotients, divided by 1: most controllers go it, and it is
+    // What it divides by. A value as received goes the way of the quotients, divided by 1: most controllers go it, and it is
     // one branch for them.
-    fn divides(self) -> bool
-        ensures { result ≡ divides self }
-    {
-        matches!(self, Formula::AsReceived | Formula::Quotient(_))
-    }
-
     fn divisor(self) -> u8
         ensures { result ≡ divisor_of self }
     {
@@ -36,34 +30,16 @@ impl Control {
         requires { v ≤ 127 }
         ensures { result ≡ number_for self.row v }
     {
-        if self.row.formula.divides() {
-            return v / self.row.formula.divisor() as u16;
-        }
         match self.row.formula {
             Formula::OnSheet(column) => column.number(v),
-            _ => 0,
+            Formula::MUpper | Formula::MLower => 0,
+            formula => v / formula.divisor() as u16,
         }
     }
 
-    // The number to store for v.
-    #[tactic(auto, unfolding(crate::specs::Formulas::next_for))]
-    pub(crate) fn next(self, v: u16, edit: &[u8]) -> u32
-        requires long { size_of self.kind ≤ length edit.now }
-        requires data_byte { v ≤ 127 }
-        ensures { result ≡ next_for self.row v (number_in self.row edit.now) }
-    {
-        if self.row.formula.divides() {
-            self.number(v) as u32
-        } else {
-            self.next_undivided(v, edit)
-        }
-    }
-
-    // The same of any formula. A call of its own, for the few that do not divide: built in, they would part the ways of all.
-    // Only the formulas of m look at the number that stands there.
+    // The number to store for v. Only the formulas of m look at the one that stands there.
     #[tactic(auto, unfolding(crate::specs::Formulas::m_of, crate::specs::Formulas::next_for))]
-    #[inline(never)]
-    fn next_undivided(self, v: u16, edit: &[u8]) -> u32
+    pub(crate) fn next(self, v: u16, edit: &[u8]) -> u32
         requires long { size_of self.kind ≤ length edit.now }
         requires data_byte { v ≤ 127 }
         ensures { result ≡ next_for self.row v (number_in self.row edit.now) }
@@ -82,27 +58,15 @@ impl Control {
     }
 
     // The value that shows a stored number.
-    pub(crate) fn shown(self, stored: u32) -> Result<u16, Refusal>
-        ensures { result ≡ shown_of self.row stored }
-    {
-        if self.row.formula.divides() {
-            self.multiple(self.row.formula.divisor(), stored)
-        } else {
-            self.shown_undivided(stored)
-        }
-    }
-
-    // As `next_undivided`.
     #[tactic(auto, unfolding(crate::specs::Formulas::m_of, crate::specs::Showing::shown_of))]
-    #[inline(never)]
-    fn shown_undivided(self, stored: u32) -> Result<u16, Refusal>
-        requires { divides self.row.formula ≡ false }
+    pub(crate) fn shown(self, stored: u32) -> Result<u16, Refusal>
         ensures { result ≡ shown_of self.row stored }
     {
         match self.row.formula {
             Formula::OnSheet(column) => column.first(stored),
             Formula::MUpper => seven_bits(stored, m_of(stored) / 128),
-            _ => seven_bits(stored, m_of(stored) % 128),
+            Formula::MLower => seven_bits(stored, m_of(stored) % 128),
+            formula => self.multiple(formula.divisor(), stored),
         }
     }
 
