@@ -1,11 +1,10 @@
 // The formulas, and the way back from a stored number.
-ghost use Rattle.std.specs.Prelude.{◌≡◌, ◌≤◌, ◌+◌, ◌/◌, ◌⊎◌, ℕ, length};
+ghost use Rattle.std.specs.Prelude.{◌≡◌, ◌≤◌, ◌+◌, ◌/◌, ℕ, length};
 ghost use Rattle.kinds.specs.Kinds.{size_of};
-ghost use Rattle.controls.specs.declared.Formula.TheVariants.{MUpper, MLower};
 ghost use Rattle.controls.specs.Fields.{number_in};
 ghost use Rattle.controls.specs.Formulas.{number_for, m_of, next_for};
 ghost use Rattle.controls.specs.Private.{divisor_of};
-ghost use Rattle.controls.specs.Showing.{smallest, shown_of};
+ghost use Rattle.controls.specs.Showing.{smallest, seven_bits, shown_of};
 
 use crate::Formula;
 use crate::control::Control;
@@ -39,59 +38,35 @@ impl Control {
     }
 
     // The number to store for v. Only the formulas of m look at the one that stands there.
-    #[tactic(auto, unfolding(crate::specs::Formulas::next_for))]
+    #[tactic(auto, unfolding(crate::specs::Formulas::m_of, crate::specs::Formulas::next_for))]
     pub(crate) fn next(self, v: u16, edit: &[u8]) -> u32
         requires long { size_of self.kind ≤ length edit.now }
         requires data_byte { v ≤ 127 }
         ensures { result ≡ next_for self.row v (number_in self.row edit.now) }
     {
         match self.row.formula {
-            Formula::MUpper | Formula::MLower => self.next_of_m(v, self.read(edit)),
+            Formula::MUpper => {
+                let m = m_of(self.read(edit));
+                6 * (v as u32 * 128 + m % 128)
+            }
+            Formula::MLower => {
+                let m = m_of(self.read(edit));
+                6 * (m / 128 * 128 + v as u32)
+            }
             _ => self.number(v) as u32,
         }
     }
 
-    // The same by a formula of m: one way for both, so that few ways part at the formula.
-    #[tactic(auto, unfolding(crate::specs::Formulas::m_of, crate::specs::Formulas::next_for))]
-    fn next_of_m(self, v: u16, stored: u32) -> u32
-        requires of_m { (self.row.formula ≡ MUpper) ⊎ (self.row.formula ≡ MLower) }
-        requires data_byte { v ≤ 127 }
-        ensures { result ≡ next_for self.row v stored }
-    {
-        let m = m_of(stored);
-        if self.row.formula == Formula::MUpper {
-            6 * (v as u32 * 128 + m % 128)
-        } else {
-            6 * (m / 128 * 128 + v as u32)
-        }
-    }
-
     // The value that shows a stored number.
-    #[tactic(auto, unfolding(crate::specs::Showing::shown_of))]
+    #[tactic(auto, unfolding(crate::specs::Formulas::m_of, crate::specs::Showing::shown_of))]
     pub(crate) fn shown(self, stored: u32) -> Result<u16, Refusal>
         ensures { result ≡ shown_of self.row stored }
     {
         match self.row.formula {
             Formula::OnSheet(column) => column.first(stored),
-            Formula::MUpper | Formula::MLower => self.shown_of_m(stored),
+            Formula::MUpper => seven_bits(stored, m_of(stored) / 128),
+            Formula::MLower => seven_bits(stored, m_of(stored) % 128),
             formula => self.multiple(formula.divisor(), stored),
-        }
-    }
-
-    // Seven bits of m, where the stored number is 6 x m.
-    #[tactic(auto, unfolding(crate::specs::Formulas::m_of, crate::specs::Showing::shown_of))]
-    fn shown_of_m(self, stored: u32) -> Result<u16, Refusal>
-        requires { (self.row.formula ≡ MUpper) ⊎ (self.row.formula ≡ MLower) }
-        ensures { result ≡ shown_of self.row stored }
-    {
-        let m = m_of(stored);
-        if stored != 6 * m {
-            return Err(Refusal::NoneGives);
-        }
-        if self.row.formula == Formula::MUpper {
-            Ok((m / 128) as u16)
-        } else {
-            Ok((m % 128) as u16)
         }
     }
 
@@ -116,4 +91,17 @@ fn m_of(stored: u32) -> u32
     ensures { result ≡ m_of stored }
 {
     (stored / 6).min(16383)
+}
+
+// Seven bits of m, where the stored number is 6 x m.
+#[tactic(auto, unfolding(crate::specs::Formulas::m_of))]
+fn seven_bits(stored: u32, bits: u32) -> Result<u16, Refusal>
+    requires { bits ≤ 127 }
+    ensures { result ≡ seven_bits stored bits }
+{
+    if stored == 6 * m_of(stored) {
+        Ok(bits as u16)
+    } else {
+        Err(Refusal::NoneGives)
+    }
 }
