@@ -38,9 +38,7 @@ impl Column {
         self.numbers()[v as usize]
     }
 
-    // The smallest value with the stored number. A call of its own: built in, the search would take its registers at every
-    // showing back.
-    #[inline(never)]
+    // The smallest value with the stored number.
     pub(crate) fn first(self, stored: u32) -> Result<u16, Refusal>
         ensures { result ≡ column_shows self stored }
     {

@@ -39,7 +39,8 @@ pub fn row_of(controller: u32, kind: Kind) -> Option<Row>
     if row.width == 0 { None } else { Some(row) }
 }
 
-// The same, of no bytes where it has none. A POD Pro has two rows of its own, and goes on as a POD.
+// The same, of no bytes where it has none: a row takes one look-up and one store, an `Option` of one, a byte longer, two of
+// each. A POD Pro has two rows of its own, and goes on as a POD.
 #[tactic(auto, unfolding(crate::specs::Table::row_of, crate::specs::Table::table, kinds::specs::Kinds::highest_model), using(ground::proofs::Tests::tests))]
 #[inline(always)]
 fn kind_row(controller: u32, kind: Kind) -> Row
