@@ -1,20 +1,20 @@
 // Told: the kind of box that a program's words tell.
-#![tactic(auto)]
+#![tactic(auto, unfolding(crate::specs::Told::kind_told, crate::specs::Told::kind_given), using(crate::proofs::Words::no_text))]
 
-ghost use Rattle.std.specs.Prelude.{◌≡◌, map, IfErr};
-ghost use Rattle.told.specs.Told.{IsKindTold};
+ghost use Rattle.std.specs.Prelude.{◌≡◌, map};
+ghost use Rattle.told.specs.Told.{kind_told, kind_given};
 
 use ground::Refusal;
 use kinds::Kind;
-use std::env::{Env, FillError};
+use std::env::FillError;
 use std::str;
 
-// No kind has a longer name.
-const LONGEST: usize = 4;
+// No kind has a longer name: the first word is read into a buffer of this size.
+pub const LONGEST: usize = 4;
 
 // The kind that the words behind a program's name tell: a POD where there is none.
 pub fn kind_told(words: &[&str]) -> Result<Kind, Refusal>
-    ensures { IsKindTold (map (λ word. word.now) words.now) result }
+    ensures { result ≡ kind_told (map (λ word. word.now) words.now) }
 {
     match words {
         [] => Ok(Kind::Pod),
@@ -23,15 +23,18 @@ pub fn kind_told(words: &[&str]) -> Result<Kind, Refusal>
     }
 }
 
-// The same of the words that this program was called with, which no contract can say. A word that is too long, or no text,
-// names no kind.
-pub fn kind(rt: &impl Env) -> Result<Kind, Refusal>
-    ensures { IfErr result (λ refusal. refusal ≡ Refusal.Unsound) }
+// The same of the words as `Env::arg` hands them to a program: what its call for the first gave, and the buffer that it was
+// lent, then what its call for a second gave. A word that is too long, or no text, names no kind.
+pub fn kind(
+    first: Result<usize, FillError>,
+    word: &[u8],
+    second: Result<usize, FillError>,
+) -> Result<Kind, Refusal>
+    ensures { result ≡ kind_given first word.now second }
 {
-    let mut word = [0; LONGEST];
-    let length = match (rt.arg(1, &mut word), rt.arg(2, &mut [])) {
-        (Err(FillError::NotPresent), _) => return kind_told(&[]),
-        (Ok(length), Err(FillError::NotPresent)) => length,
+    let length = match (first, second) {
+        (Err(FillError::NotPresent), Err(FillError::NotPresent)) => return kind_told(&[]),
+        (Ok(length), Err(FillError::NotPresent)) if length <= word.len() => length,
         _ => return Err(Refusal::Unsound),
     };
     let word = str::from_utf8(&word[..length]).map_err(|_| Refusal::Unsound)?;

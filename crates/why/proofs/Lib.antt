@@ -1,1 +1,2 @@
 pub mod AllKept
+pub mod Known
