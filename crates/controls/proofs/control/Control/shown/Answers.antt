@@ -1,5 +1,5 @@
 -- By each formula what is shown of the row.
-use Rattle.std.proofs.Common.{sym, refl, ◌∙◌}
+use Rattle.std.proofs.Common.{refl, ◌∙◌}
 use borrow.Author.Tests.{eqb-true}
 use Rattle.controls.proofs.Columns.{divides, divided}
 use Rattle.controls.proofs.Ordered.{same_column}
