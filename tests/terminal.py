@@ -37,13 +37,18 @@ def main():
     child, terminal = pty.fork()
     if child == 0:
         os.execv(sys.argv[1], sys.argv[1:])
-    os.write(terminal, b'abc\n\x04')
-    status = ended(child, terminal)
+    status = None
+    try:
+        os.write(terminal, b'abc\n\x04')
+        status = ended(child, terminal)
+    finally:
+        if status is None:
+            os.kill(child, signal.SIGKILL)
+            os.waitpid(child, 0)
     if status is None:
-        os.kill(child, signal.SIGKILL)
-        os.waitpid(child, 0)
         sys.exit(f'still waits {SECONDS} seconds after one end of file')
-    sys.exit(status)
+    if status:
+        sys.exit(f'ended with status {status}, or by that signal if below 0')
 
 
 if __name__ == '__main__':

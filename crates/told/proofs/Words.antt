@@ -21,7 +21,7 @@ other word name differs e = true≢false (sym ((bytes_eq-Decides word name).1 e)
 
 module _ (word : List ℕ) where
   -- what a word names is one answer
-  pub named_one : (kind : Result Kind Refusal) → IsKindNamed word kind → kind ≡ kind_named word
+  named_one : (kind : Result Kind Refusal) → IsKindNamed word kind → kind ≡ kind_named word
   unfolding kind_named
   named_one kind named =
       by is (bytes_eq word (codes "pod")) _ _ (λ e. named.pod (same word _ e)) (λ a.
@@ -43,7 +43,7 @@ module _ (word : List ℕ) where
       is k = k ≡ Err Unsound
 
   -- and it names that
-  pub named_is : IsKindNamed word (kind_named word)
+  named_is : IsKindNamed word (kind_named word)
   unfolding kind_named
   named_is =
       record {

@@ -4,7 +4,7 @@ use Rattle.std.proofs.lemmas.List.{take_min}
 use Rattle.std.specs.Prelude.{None, Some, IfSome}
 use Rattle.std.specs.declared.option.Option.{Option}
 use Rattle.std.specs.Io.KnownBytes.{Consumes, IsAtEnd}
-use Rattle.std.proofs.KnownBytes.{Consumes-nil, Consumes-trans, Consumes-whole}
+use Rattle.std.proofs.KnownBytes.{Consumes-trans, Consumes-whole}
 use Rattle.why.specs.Kept.{buffer_size, kept_of}
 
 -- the first bytes of what came and of the part behind it
@@ -18,10 +18,6 @@ take_behind (suc n) (x ∷ came) part =
 -- What is kept once a reader has this left: the first bytes of what came since it had all left.
 abbrev pub Keeping : Option (List ℕ) → Option (List ℕ) → List ℕ → Type 0
 Keeping all left message = (came : List ℕ) × Consumes all left came × (message ≡ take buffer_size came)
-
--- at first none came
-pub none_kept : (all : Option (List ℕ)) → Keeping all all []
-none_kept all = ([], Consumes-nil all, refl)
 
 module _ (all before after : Option (List ℕ)) (message part : List ℕ) (keeping : Keeping all before message) (more : Consumes before after part) where
   -- a part more came: as much of it is kept as there is room for
