@@ -33,7 +33,7 @@ impl<const LENGTH: usize> Lent<LENGTH> {
         &self.bytes[..self.count]
     }
 
-    // Step by step, for the check lends a part of an array that is lent by itself.
+    // As a slice first, since the check lends no part of an array whose length is a parameter.
     pub(crate) fn lent_mut(&mut self) -> &mut [u8] {
         let count = self.count;
         let bytes = &mut self.bytes;
